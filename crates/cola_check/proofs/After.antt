@@ -1,24 +1,8 @@
 -- Tests after others.
 use Rattle.std.proofs.Common.{◌≡◌, ℕ, List, [], ◌∷◌, ◌++◌, Option, None, Result, Ok, Err, IfOk, IfErr, subst}
-use Rattle.std.specs.List.{AllByRecursion}
-use Rattle.cola_outside.specs.Faults.{Rose}
-use Rattle.cola_cell.specs.declared.fault.ReadFault.{ReadFault}
-use Rattle.cola_cell.specs.declared.fault.ReadFault.TheVariants.{Device, BadCell}
-use Rattle.cola_cell.specs.Held.{Held, IsTelling}
-use Rattle.cola_cell.specs.State.{State}
-use Rattle.cola_layout.specs.declared.header.Header.{Header}
-use Rattle.cola_verdict.specs.declared.verdict.Flaw.{Flaw}
+use Rattle.cola_check.proofs.Common.{Rose, ReadFault, Device, BadCell, Held, IsTelling, State, Header, Flaw, Verdict, AreCellsTold, all_append, FindsCell, tested_by, FindsFlaw, FindsVerdict, TestCause, Tests}
 use Rattle.cola_verdict.specs.declared.verdict.Flaw.TheVariants.{Cell}
-use Rattle.cola_verdict.specs.declared.verdict.Verdict.{Verdict}
-use Rattle.cola_verdict.specs.Tests.{Tested, AreCellsTold}
 use Rattle.cola_verdict.specs.Verdict.{Passes}
-use Rattle.cola_check.specs.BadCells.{FindsCell}
-use Rattle.cola_check.specs.Found.{tested_by}
-use Rattle.cola_check.specs.Testing.{FindsFlaw, FindsVerdict, TestCause, Tests}
-
-all-then : (file : Tested) (xs ys : List Flaw) → AllByRecursion (Passes file) xs → AllByRecursion (Passes file) ys → AllByRecursion (Passes file) (xs ++ ys)
-all-then file [] ys h k = k
-all-then file (x ∷ xs) ys h k = (h.0, all-then file xs ys h.1 k)
 
 -- where some tests found nothing, the verdict by the tests behind them is that by these and those
 pub goes-on : (header : Header) (old mid : Held) (before these : List Flaw) (found : Option Verdict) (result : Result Verdict ReadFault) → mid ≡ old → found ≡ None →
@@ -27,7 +11,7 @@ goes-on header old mid before these found (Err fault) same none finds verdict = 
 goes-on header old mid before these found (Ok v) same none finds verdict = λ passed.
     let first : FindsFlaw (tested_by header old) before these None = subst (FindsFlaw (tested_by header old) before these) none finds in
     let last : FindsVerdict (tested_by header old) (before ++ these) v = subst (λ (h : Held). FindsVerdict (tested_by header h) (before ++ these) v) same verdict in
-    last (all-then (tested_by header old) before these passed (first passed))
+    last (all_append (Passes (tested_by header old)) before these passed (first passed))
 
 -- the answer of all tests, where no cell of the runs is bad
 pub of-runs : (header : Header) (old mid new : State) (found : Option (ℕ × ℕ)) (result : Result Verdict ReadFault) → mid.held ≡ old.held → mid.spent.faults ≡ old.spent.faults → found ≡ None →

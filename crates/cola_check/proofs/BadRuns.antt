@@ -1,25 +1,8 @@
 -- The lowest bad cell of the runs of a file, and how many cells the runs have.
-use Rattle.std.proofs.Common.{◌≡◌, ℕ, ◌+◌, ◌<◌, false, Option, None, Some, refl, subst, arith, below_more, inl, inr, zero, suc, ◌-◌, ◌*◌, ◌^◌, ◌≤◌, ◌==◌, Bool, true, if◌then◌else◌, length, Result, Ok}
-use Rattle.std.proofs.Common.{Err, IfOk, sym, ap, ◌∙◌}
-use Rattle.std.proofs.lemmas.Bool.{cases_order}
-use Rattle.cola_cell.specs.declared.cell.Run.{Run}
-use Rattle.cola_cell.specs.Held.{Held, Spot, Untold, Bad, Told, Tells, HasPlace, IsTelling, is_untold}
-use Rattle.cola_cell.specs.Spent.{IsBad}
-use Rattle.cola_cell.specs.ToldCells.{IsTold, AreTold}
-use Rattle.cola_cell.specs.declared.fault.ReadFault.{ReadFault}
-use Rattle.cola_cell.specs.Places.{number_of, slot_size}
-use Rattle.cola_clock.specs.Clock.{visible_slot}
-use Rattle.cola_clock.proofs.MarkLaws.{marks-each}
-use Rattle.cola_layout.specs.declared.header.Header.{Header}
-use Rattle.cola_layout.specs.Marks.{all_numbers}
-use Rattle.cola_layout.proofs.Levels.{numbers-length}
-use Rattle.cola_layout.proofs.Places.{place-from, place-below}
-use Rattle.cola_layout.proofs.Powers.{next_power, power-le}
-use Rattle.cola_look.specs.Runs.{HasRun}
-use Rattle.cola_verdict.specs.Tests.{run_len, IsLowestBad}
-use Rattle.cola_check.specs.BadCells.{FindsOne, FindsIn, FindsAt, AreRunsTold, IsFirstAt, FindsCell, level_cells, cells_above, all_cells}
-use Rattle.cola_check.specs.Found.{tested_by, numbers_at, run_in}
-use Rattle.cola_check.specs.Reading.{IsRunTold}
+use Rattle.std.proofs.Common.{◌≡◌, ℕ, ◌+◌, ◌<◌, false, Option, None, Some, refl, subst, arith, below_more, inl, inr, zero, suc, ◌-◌, ◌*◌, ◌^◌, ◌≤◌, ◌==◌, if◌then◌else◌, length, Result, Ok, Err, IfOk, sym, ap, ◌∙◌}
+use Rattle.cola_check.proofs.Common.{cases_order, Run, Held, Spot, Untold, Bad, Told, Tells, HasPlace, IsTelling, is_untold, IsBad, IsTold, AreTold, ReadFault, number_of, slot_size, visible_slot, marks-each, Header, all_numbers}
+use Rattle.cola_check.proofs.Common.{numbers-length, place-from, place-below, next_power, power-le, HasRun, by_bool, run_len, IsLowestBad, FindsOne, FindsIn, FindsAt, AreRunsTold, IsFirstAt, FindsCell, level_cells, cells_above}
+use Rattle.cola_check.proofs.Common.{all_cells, tested_by, numbers_at, run_in, IsRunTold}
 
 -- ---- one more place of a run
 
@@ -66,11 +49,9 @@ module _ (header : Header) where
 
   -- a run fits its slot
   pub run-fits : (level slot : ℕ) → level ≤ header.geometry.bottom → (run_in header level slot).len ≤ slot_size level
-  run-fits level slot low = by-test (slot == visible_slot header.clock level)
-    where
-      by-test : (t : Bool) → (if t then (numbers_at header level).visible else (numbers_at header level).shadow) ≤ slot_size level
-      by-test true = (marks-each header.clock (all_numbers header.levels.items) header.marks_fit level (level-in level low)).visible_fits
-      by-test false = (marks-each header.clock (all_numbers header.levels.items) header.marks_fit level (level-in level low)).shadow_fits
+  run-fits level slot low =
+      let m = marks-each header.clock (all_numbers header.levels.items) header.marks_fit level (level-in level low) in
+      by_bool (λ t. (if t then (numbers_at header level).visible else (numbers_at header level).shadow) ≤ slot_size level) m.visible_fits m.shadow_fits (slot == visible_slot header.clock level)
 
   -- ---- how many cells they are
 

@@ -1,30 +1,15 @@
 -- A walk over three runs by least keys, and what it says of each key of them.
-use Rattle.std.proofs.Common.{◌≡◌, ℕ, false, cond, List, [], ◌∷◌, refl, sym, ap, ◌∙◌, Less, ◌⊎◌, inl, inr, ◌<◌, ◌≤◌, ◌+◌, Bool, true, drop, Option, None, Some, subst, arith}
-use Rattle.std.specs.Ordering.{is_lt, is_eq}
-use Rattle.std.specs.List.{AllByRecursion}
-use Rattle.std.specs.List.Sorted.{IsStrictlySortedBy}
-use Rattle.cola_runs.specs.Cells.{Entry, Look, key_of, IsRising}
-use Rattle.cola_runs.specs.Seen.{Nothing, flagged, seen, Seen}
+use Rattle.std.proofs.Common.{◌≡◌, ℕ, false, cond, List, [], ◌∷◌, refl, sym, ap, ◌∙◌, Less, ◌↔◌, inl, inr, ◌<◌, ◌+◌, Bool, true, drop, Option, None, Some, subst, arith, is_lt, is_eq}
+use Rattle.cola_check.proofs.Common.{AllByRecursion, transport, IsStrictlySortedBy, Entry, Look, IsRising, flagged, seen, Seen, AtHead, pass_key, by_bool, tied_alike, LawCell, Held, Stamped, key_cmp, Cell, Run, run_cells}
+use Rattle.cola_check.proofs.Common.{passed_seen, WalkFits, IsReady, rest, ahead, as_seen, least_from, Passes, Beside, Found, Walk, IsRunTold, FitsAt, IsCarried, IsInOrder, AreInOrder, BeginBeside, StepsBeside, walks_of}
+use Rattle.cola_runs.specs.Cells.{key_of}
+use Rattle.cola_runs.specs.Seen.{Nothing}
 use Rattle.cola_laws.specs.Chain.{part_of}
 use Rattle.cola_laws.specs.Sound.{Carried, Keeps, KeepsAll}
-use Rattle.cola_pairs.specs.Walk.{AtHead, pass_key}
-use Rattle.cola_pairs.proofs.Order.{by_bool, tied_alike}
 use Rattle.cola_pairs.proofs.LivePairs.{rising_onward, none_below}
 use Rattle.cola_pairs.proofs.Onward.{passed_above, rising_passed}
-use Rattle.cola_cell.specs.Held.{LawCell, Held, Stamped}
-use Rattle.cola_cell.specs.Order.{key_cmp}
-use Rattle.cola_cell.specs.declared.cell.Cell.{Cell}
-use Rattle.cola_cell.specs.declared.cell.Run.{Run}
-use Rattle.cola_cell.specs.ToldCells.{run_cells}
-use Rattle.cola_check.specs.Walks.{passed_seen, WalkFits, IsReady, rest, ahead, as_seen, least_from, Passes}
-use Rattle.cola_check.specs.declared.carried.Beside.{Beside}
 use Rattle.cola_check.specs.declared.carried.Step.{Step}
-use Rattle.cola_check.specs.declared.walk.Found.{Found}
-use Rattle.cola_check.specs.declared.walk.Walk.{Walk}
-use Rattle.cola_check.specs.Reading.{IsRunTold}
-use Rattle.cola_check.specs.Carrying.{FitsAt, IsCarried}
-use Rattle.cola_check.specs.Beside.{IsInOrder, AreInOrder, BeginBeside, StepsBeside, walks_of}
-use Rattle.cola_check.proofs.LeastKeys.{key_total, key_same, same_key, HeadFrom, AnyHas, IsLeast, least_is, least_none}
+use Rattle.cola_check.proofs.LeastKeys.{key_total, key_same, same_key, HeadFrom, IsLeast, some_head, least_is, least_none}
 use Rattle.cola_check.proofs.Fronts.{FrontIs, ready_front, ahead_stays, ahead_falls}
 
 -- ---- what a list in order has of keys, before and behind the cells of a key at its front
@@ -53,9 +38,6 @@ unseen_below k (Entry x i y l ∷ cells) h = ap (λ r. cond (is_eq r) (flagged y
 -- nothing of the key is left behind its cells
 pub none_behind : (k : List ℕ) (cells : List LawCell) → IsRising key_cmp cells → BeginsFrom k cells → seen key_cmp k (pass_key key_cmp k cells) ≡ Nothing
 none_behind k cells h p = unseen_below k (pass_key key_cmp k cells) (passed_above key_total k cells (rising_onward key_total cells h) p)
-
-pub rising_behind : (k : List ℕ) (cells : List LawCell) → IsRising key_cmp cells → IsRising key_cmp (pass_key key_cmp k cells)
-rising_behind k cells h = rising_passed key_total k cells h
 
 begins_after : (k : List ℕ) (c : LawCell) (cells : List LawCell) → IsRising key_cmp (c ∷ cells) → BeginsFrom k (c ∷ cells) → BeginsFrom k cells
 begins_after k c [] h p = tt
@@ -98,9 +80,6 @@ module _ (P : Seen Stamped → Seen Stamped → Seen Stamped → Type 0) where
 
   all_three : {a b c d e f : Seen Stamped} → a ≡ d → b ≡ e → c ≡ f → P a b c → P d e f
   all_three {a} {b} {c} {d} {e} {f} p q r h = subst (λ x. P d e x) r (subst (λ x. P d x c) q (subst (λ x. P x b c) p h))
-
-  each_same : {a b c d e f : List LawCell} → a ≡ d → b ≡ e → c ≡ f → AtEach a b c → AtEach d e f
-  each_same {a} {b} {c} {d} {e} {f} p q r h = subst (λ x. AtEach d e x) r (subst (λ x. AtEach d x c) q (subst (λ x. AtEach x b c) p h))
 
   module _ (nothing : P Nothing Nothing Nothing) {k : List ℕ} {above own shadow above_left own_left shadow_left : List LawCell}
       (a : Behind k above above_left) (o : Behind k own own_left) (s : Behind k shadow shadow_left) where
@@ -161,7 +140,7 @@ on_next {held} {k} {run} {old} {new} i p = record {
   run_is = p.run_is ∙ i.run_is;
   fits = p.fits;
   ready = p.ready;
-  rising = λ o. subst (IsRising key_cmp) (sym (p.rest_is (told_of i o))) (rising_behind k (rest held old) (i.rising o));
+  rising = λ o. subst (IsRising key_cmp) (sym (p.rest_is (told_of i o))) (rising_passed key_total k (rest held old) (i.rising o));
 }
 
 -- ---- the three walks
@@ -183,8 +162,8 @@ going_begins {P} {held} {above} {own} {shadow} {walks} b =
       above_on = on_first b.above_is b.above_at b.fits.above b.ready.above;
       own_on = on_first b.own_is b.own_at b.fits.own b.ready.own;
       shadow_on = on_first b.shadow_is b.shadow_at b.fits.shadow b.ready.shadow;
-      leaves = λ o h. each_same P (sym e) (sym f) (sym g) h;
-      adds = λ o h. each_same P e f g h;
+      leaves = λ o h. transport (λ i. AtEach P (sym e i) (sym f i) (sym g i)) h;
+      adds = λ o h. transport (λ i. AtEach P (e i) (f i) (g i)) h;
     }
 
 module _ {P : Seen Stamped → Seen Stamped → Seen Stamped → Type 0} {held : Held} {above own shadow : Run} {walks : Beside} where
@@ -195,20 +174,20 @@ module _ {P : Seen Stamped → Seen Stamped → Seen Stamped → Type 0} {held :
         let a = nothing_left held walks.above i.above_on.fits i.above_on.ready (told_of i.above_on o.above_in) heads.0 in
         let b = nothing_left held walks.own i.own_on.fits i.own_on.ready (told_of i.own_on o.own_in) heads.1.0 in
         let c = nothing_left held walks.shadow i.shadow_on.fits i.shadow_on.ready (told_of i.shadow_on o.shadow_in) heads.1.1.0 in
-        i.adds o (each_same P (sym a) (sym b) (sym c) (λ q. nothing))
+        i.adds o (transport (λ j. AtEach P (sym a j) (sym b j) (sym c j)) (λ q. nothing))
 
     module _ {k : List ℕ} {new : Beside} {step : Step} (e : least_from None (walks_of walks) ≡ Some k) (p : StepsBeside held k walks new step) where
       abbrev heads : IsLeast None (walks_of walks) k
       heads = least_is None (walks_of walks) k e
 
       -- what the walk found of the key is what the three lists have of it
-      found_at : AreInOrder held above own shadow → P (as_seen step.above) (as_seen step.own) (as_seen step.shadow) →
+      found_at : AreInOrder held above own shadow → P (as_seen step.above) (as_seen step.own) (as_seen step.shadow) ↔
           P (seen key_cmp k (rest held walks.above)) (seen key_cmp k (rest held walks.own)) (seen key_cmp k (rest held walks.shadow))
-      found_at o = all_three P (found_of_key i.above_on o.above_in heads.from.0 p.above) (found_of_key i.own_on o.own_in heads.from.1.0 p.own) (found_of_key i.shadow_on o.shadow_in heads.from.1.1.0 p.shadow)
-
-      at_found : AreInOrder held above own shadow → P (seen key_cmp k (rest held walks.above)) (seen key_cmp k (rest held walks.own)) (seen key_cmp k (rest held walks.shadow)) →
-          P (as_seen step.above) (as_seen step.own) (as_seen step.shadow)
-      at_found o = all_three P (sym (found_of_key i.above_on o.above_in heads.from.0 p.above)) (sym (found_of_key i.own_on o.own_in heads.from.1.0 p.own)) (sym (found_of_key i.shadow_on o.shadow_in heads.from.1.1.0 p.shadow))
+      found_at o =
+          let a = found_of_key i.above_on o.above_in heads.from.0 p.above in
+          let b = found_of_key i.own_on o.own_in heads.from.1.0 p.own in
+          let c = found_of_key i.shadow_on o.shadow_in heads.from.1.1.0 p.shadow in
+          (all_three P a b c, all_three P (sym a) (sym b) (sym c))
 
       pub going_on : P (as_seen step.above) (as_seen step.own) (as_seen step.shadow) → IsGoing P held above own shadow new
       going_on f = record {
@@ -216,32 +195,26 @@ module _ {P : Seen Stamped → Seen Stamped → Seen Stamped → Type 0} {held :
         own_on = on_next i.own_on p.own;
         shadow_on = on_next i.shadow_on p.shadow;
         leaves = λ o h. step_leaves P nothing (behind_of i.above_on o.above_in heads.from.0 p.above) (behind_of i.own_on o.own_in heads.from.1.0 p.own) (behind_of i.shadow_on o.shadow_in heads.from.1.1.0 p.shadow) (i.leaves o h);
-        adds = λ o h. i.adds o (step_adds P nothing (behind_of i.above_on o.above_in heads.from.0 p.above) (behind_of i.own_on o.own_in heads.from.1.0 p.own) (behind_of i.shadow_on o.shadow_in heads.from.1.1.0 p.shadow) (found_at o f) h);
+        adds = λ o h. i.adds o (step_adds P nothing (behind_of i.above_on o.above_in heads.from.0 p.above) (behind_of i.own_on o.own_in heads.from.1.0 p.own) (behind_of i.shadow_on o.shadow_in heads.from.1.1.0 p.shadow)
+            ((found_at o).0 f) h);
       }
 
       -- where the relation fails at a key it fails of the runs
       pub going_fails : (P (as_seen step.above) (as_seen step.own) (as_seen step.shadow) → ⊥) → AreInOrder held above own shadow → AtEach P (run_cells held above) (run_cells held own) (run_cells held shadow) → ⊥
-      going_fails f o h = f (at_found o (i.leaves o h k))
+      going_fails f o h = f ((found_at o).1 (i.leaves o h k))
 
       -- a step leaves less to pass
       pub going_less : ahead new.above + ahead new.own + ahead new.shadow < ahead walks.above + ahead walks.own + ahead walks.shadow
-      going_less = go heads.any
-        where
-          a : ahead new.above ≤ ahead walks.above
-          a = ahead_stays p.above
-
-          b : ahead new.own ≤ ahead walks.own
-          b = ahead_stays p.own
-
-          c : ahead new.shadow ≤ ahead walks.shadow
-          c = ahead_stays p.shadow
-
-          go : (None ≡ Some k) ⊎ AnyHas k (walks_of walks) → ahead new.above + ahead new.own + ahead new.shadow < ahead walks.above + ahead walks.own + ahead walks.shadow
-          go (inl x) = cc
-          go (inr (inl x)) = let d = ahead_falls p.above x in let m = b in let n = c in omega arith
-          go (inr (inr (inl x))) = let d = ahead_falls p.own x in let m = a in let n = c in omega arith
-          go (inr (inr (inr (inl x)))) = let d = ahead_falls p.shadow x in let m = a in let n = b in omega arith
-          go (inr (inr (inr (inr x)))) = absurd x
+      going_less =
+          let a = ahead_stays p.above in
+          let b = ahead_stays p.own in
+          let c = ahead_stays p.shadow in
+          elim (some_head k (walks_of walks) heads.any) [
+            | inl x ↦ let d = ahead_falls p.above x in omega arith
+            | inr (inl x) ↦ let d = ahead_falls p.own x in omega arith
+            | inr (inr (inl x)) ↦ let d = ahead_falls p.shadow x in omega arith
+            | inr (inr (inr x)) ↦ absurd x
+          ]
 
 -- ---- a finished shadow
 

@@ -1,39 +1,17 @@
 -- The test of a cut: a merge along a run, two merges side by side, and a shadow beside its build.
-use Rattle.std.proofs.Common.{◌≡◌, ℕ, suc, ◌+◌, ◌-◌, ◌*◌, ◌<◌, ◌≤◌, ◌↔◌, inl, inr, Bool, true, false, IsTrue, List, [], ◌∷◌, ◌++◌, Option, Some, None, Result, Ok, Err, refl, ap, sym, subst, ◌∙◌, arith, not, IfOk}
-use Rattle.std.proofs.lemmas.Bool.{true≢false}
-use Rattle.std.specs.Option.{is_some}
-use Rattle.std.proofs.lemmas.List.{append_cancel_left}
-use Rattle.cola_outside.specs.Faults.{Rose}
-use Rattle.cola_cell.specs.declared.cell.Cell.{Cell}
-use Rattle.cola_cell.specs.declared.cell.Run.{Run}
-use Rattle.cola_cell.specs.declared.cell.Reader.{Reader}
-use Rattle.cola_cell.specs.declared.cell.Reader.TheVariants.{Own, Incoming, Sample}
-use Rattle.cola_cell.specs.declared.fault.ReadFault.{ReadFault}
-use Rattle.cola_cell.specs.declared.fault.ReadFault.TheVariants.{Device, BadCell}
-use Rattle.cola_cell.specs.Held.{Held, Spot, Told, Tells, LawCell, as_cell}
-use Rattle.cola_cell.specs.Spent.{Spent, Buffer, ReadAnswers}
-use Rattle.cola_cell.specs.State.{State}
-use Rattle.cola_cell.specs.Reads.{Reads}
-use Rattle.cola_cell.proofs.RunLemmas.{given_is_told}
-use Rattle.cola_cell.specs.ToldCells.{cell_at, cells, run_cells}
-use Rattle.cola_cell.specs.Costs.{Costs}
-use Rattle.cola_merge.specs.declared.aims.Feed.{Feed}
-use Rattle.cola_merge.specs.declared.aims.Aim.{Aim}
-use Rattle.cola_merge.specs.declared.merging.Merger.{Merger}
-use Rattle.cola_merge.specs.Feeds.{feed_of, IsBadAt, feed_len}
-use Rattle.cola_merge.specs.Heads.{head_of, HasHeads, fetched, consumed, fresh}
-use Rattle.cola_merge.specs.States.{Spends, state}
-use Rattle.cola_merge.specs.Advance.{cells_read, whole_run}
-use Rattle.cola_merge.specs.Pulls.{AreInOrder, ahead, Gives, HasPullCause, Pulls, given_cells}
+use Rattle.std.proofs.Common.{◌≡◌, ℕ, suc, ◌+◌, ◌-◌, ◌*◌, ◌<◌, ◌≤◌, ◌↔◌, ◌⊎◌, inl, inr, Bool, true, false, IsTrue, List, [], ◌∷◌, ◌++◌, Option, Some, None, Result, Ok, Err, refl, ap, sym, subst, ◌∙◌, arith, not, IfOk, true≢false}
+use Rattle.std.proofs.Common.{is_some}
+use Rattle.cola_check.proofs.Common.{append_cancel_left, Rose, Cell, Run, Reader, Own, Incoming, ReadFault, Device, BadCell, Held, Spot, Told, Tells, LawCell, as_cell, Spent, Buffer, ReadAnswers, State, Reads, given_is_told}
+use Rattle.cola_check.proofs.Common.{cell_at, cells, run_cells, Costs, Feed, Aim, Merger, feed_of, IsBadAt, feed_len, head_of, HasHeads, fetched, consumed, fresh, Spends, state, cells_read, whole_run, Gives, HasPullCause, Pulls}
+use Rattle.cola_check.proofs.Common.{given_cells, IsRunTold, HasBadRun, PassCause, ReadsRuns, runs_of_feed, runs_of_aim, Followed, Compared, CutFits, CutsAfter, resumed, by_others, Cursors}
+use Rattle.cola_cell.specs.declared.cell.Reader.TheVariants.{Sample}
+use Rattle.cola_merge.specs.Pulls.{AreInOrder, ahead}
 use Rattle.cola_merge.proofs.Sums.{spends_none, spends_then}
 use Rattle.cola_merge.proofs.Stepping.{all_read}
 use Rattle.cola_merge.proofs.Pulling.{fewer_left}
 use Rattle.cola_merge.proofs.Ahead.{ahead-fresh, cut_is_ahead}
+use Rattle.cola_check.proofs.Levels.{cause_among}
 use Rattle.cola_merge.specs.declared.aims.Feed.TheVariants as feed
-use Rattle.cola_check.specs.Reading.{IsRunTold, HasBadRun, PassCause, ReadsRuns}
-use Rattle.cola_check.specs.Cut.{runs_of_feed, runs_of_aim, Followed, Compared, CutFits, CutsAfter, resumed}
-use Rattle.cola_check.specs.Others.{by_others}
-use Rattle.cola_check.specs.declared.cut.Cursors.{Cursors}
 
 -- ---- what a read spends
 
@@ -50,36 +28,30 @@ read_spends r e = record {
 
 -- ---- causes
 
-bad_left : (held : Held) (number : ℕ) (xs ys : List Run) → HasBadRun held number xs → HasBadRun held number (xs ++ ys)
-bad_left held number [] ys h = absurd h
-bad_left held number (x ∷ xs) ys (inl h) = inl h
-bad_left held number (x ∷ xs) ys (inr h) = inr (bad_left held number xs ys h)
-
-bad_right : (held : Held) (number : ℕ) (xs ys : List Run) → HasBadRun held number ys → HasBadRun held number (xs ++ ys)
-bad_right held number [] ys h = h
-bad_right held number (x ∷ xs) ys h = inr (bad_right held number xs ys h)
+-- a bad run of one of two lists is one of both
+bad_of_both : (held : Held) (number : ℕ) (xs ys : List Run) → HasBadRun held number xs ⊎ HasBadRun held number ys → HasBadRun held number (xs ++ ys)
+bad_of_both held number [] ys (inl h) = absurd h
+bad_of_both held number [] ys (inr h) = h
+bad_of_both held number (x ∷ xs) ys (inl (inl h)) = inl h
+bad_of_both held number (x ∷ xs) ys (inl (inr h)) = inr (bad_of_both held number xs ys (inl h))
+bad_of_both held number (x ∷ xs) ys (inr h) = inr (bad_of_both held number xs ys (inr h))
 
 bad_in_feed : (held : Held) (f : Feed) (at number : ℕ) → IsBadAt held f at number → HasBadRun held number (runs_of_feed f)
 bad_in_feed held (feed.Run run) at number h = inl (record { index = at; within = h.0; bad = h.1 })
 bad_in_feed held (feed.Sampled run) at number h = inl (record { index = 8 * at + 7; within = (let l = h.0 in omega (arith, l)); bad = h.1 })
-bad_in_feed held (feed.One c) at number h = absurd h
-bad_in_feed held feed.Nothing at number h = absurd h
+bad_in_feed held _ at number h = absurd h
 
 bad_in_aim : (held : Held) (aim : Aim) (reader : Reader) (number : ℕ) → HasBadRun held number (runs_of_feed (feed_of aim reader)) → HasBadRun held number (runs_of_aim aim)
-bad_in_aim held aim Own number h = bad_left held number (runs_of_feed aim.own) (runs_of_feed aim.incoming ++ runs_of_feed aim.sample) h
+bad_in_aim held aim Own number h = bad_of_both held number (runs_of_feed aim.own) (runs_of_feed aim.incoming ++ runs_of_feed aim.sample) (inl h)
 bad_in_aim held aim Incoming number h =
-    bad_right held number (runs_of_feed aim.own) (runs_of_feed aim.incoming ++ runs_of_feed aim.sample) (bad_left held number (runs_of_feed aim.incoming) (runs_of_feed aim.sample) h)
+    bad_of_both held number (runs_of_feed aim.own) (runs_of_feed aim.incoming ++ runs_of_feed aim.sample) (inr (bad_of_both held number (runs_of_feed aim.incoming) (runs_of_feed aim.sample) (inl h)))
 bad_in_aim held aim Sample number h =
-    bad_right held number (runs_of_feed aim.own) (runs_of_feed aim.incoming ++ runs_of_feed aim.sample) (bad_right held number (runs_of_feed aim.incoming) (runs_of_feed aim.sample) h)
+    bad_of_both held number (runs_of_feed aim.own) (runs_of_feed aim.incoming ++ runs_of_feed aim.sample) (inr (bad_of_both held number (runs_of_feed aim.incoming) (runs_of_feed aim.sample) (inr h)))
 
 pub pull_cause : (held : Held) (aim : Aim) (before between : ℕ) (b : Spent) (n : Merger) (to : ℕ) (fault : ReadFault) → between ≡ before → HasPullCause held aim between b n to (Err fault) →
     PassCause held (runs_of_aim aim) before b.faults fault
 pull_cause held aim before between b n to Device e c = subst (λ (x : ℕ). Rose x b.faults) e c
 pull_cause held aim before between b n to (BadCell number) e c = bad_in_aim held aim c.reader number (bad_in_feed held (feed_of aim c.reader) (head_of n c.reader).at number c.bad)
-
-pub with_run : (held : Held) (run : Run) (runs : List Run) (before now : ℕ) (fault : ReadFault) → PassCause held runs before now fault → PassCause held (run ∷ runs) before now fault
-with_run held run runs before now Device c = c
-with_run held run runs before now (BadCell number) c = inr c
 
 read_cause : (held : Held) (run : Run) (runs : List Run) (index before between now : ℕ) (fault : ReadFault) → index < run.len → between ≡ before → ReadAnswers held between now run.level run.slot index (Err fault) →
     PassCause held (run ∷ runs) before now fault
@@ -93,15 +65,18 @@ pub pulled_at : {aim : Aim} {m n : Merger} {i j : ℕ} {result : Result (Option 
     Pulls aim (state (record one { held = held }) m i) (state two n j) result
 pulled_at {aim} {m} {n} {i} {j} {result} held one two e p = subst (λ (h : Held). Pulls aim (state (record one { held = h }) m i) (state two n j) result) e p
 
+gave_some : (held : Held) (aim : Aim) (m n : Merger) (given : Option Cell) (c : Cell) → given ≡ Some c → Gives held aim m n (Ok given) → ahead held aim m ≡ as_cell c ∷ ahead held aim n
+gave_some held aim m n given c e h = subst (λ (x : Option Cell). Gives held aim m n (Ok x)) e h
+
+gave_none : (held : Held) (aim : Aim) (m n : Merger) (given : Option Cell) → given ≡ None → Gives held aim m n (Ok given) → ahead held aim m ≡ []
+gave_none held aim m n given e h = subst (λ (x : Option Cell). Gives held aim m n (Ok x)) e h
+
 -- ---- a merge along a run
 
-pub heads_same : (x y : LawCell) (xs ys : List LawCell) → x ∷ xs ≡ y ∷ ys → x ≡ y
-heads_same x y xs ys e = cc
+parts_same : (x y : LawCell) (xs ys : List LawCell) → x ∷ xs ≡ y ∷ ys → (x ≡ y) × (xs ≡ ys)
+parts_same x y xs ys e = (cc, cc)
 
-pub tails_same : (x y : LawCell) (xs ys : List LawCell) → x ∷ xs ≡ y ∷ ys → xs ≡ ys
-tails_same x y xs ys e = cc
-
-pub none_some : (y : LawCell) (ys : List LawCell) → [] ≡ y ∷ ys → ⊥
+none_some : (y : LawCell) (ys : List LawCell) → [] ≡ y ∷ ys → ⊥
 none_some y ys e = cc
 
 -- the cells of the run up to an index were given
@@ -145,22 +120,19 @@ module _ {old one : State} (two : State) {aim : Aim} {run : Run} {m n o : Merger
     ticks = omega (arith, f.ticks, p.ticks.0, p.ticks.1, l);
     spends = spends_then f.spends p.spends;
     written_is = p.written ∙ f.written_is;
-    cause = with_run old.held run (runs_of_aim aim) old.spent.faults two.spent.faults fault (pull_cause old.held aim old.spent.faults one.spent.faults two.spent o k fault f.calm p.cause);
+    cause = cause_among old.held (runs_of_aim aim) (run ∷ runs_of_aim aim) old.spent.faults two.spent.faults fault (λ number b. inr b) (pull_cause old.held aim old.spent.faults one.spent.faults two.spent o k fault f.calm p.cause);
   })
 
   -- the merge has no more cells
   pub pull_ends : (given : Option Cell) → given ≡ None → at < run.len → Pulls aim (state one n j) (state two o k) (Ok given) → Followed old two aim run m o i k (Ok false)
   pull_ends given e l q = let p = pulled_at old.held one two f.cells_stay q in record {
-    follows = λ t w rest g. none_some _ _ (sym (nothing p t) ∙ (f.follows t w rest).0 g ∙ ap (λ (xs : List LawCell). xs ++ rest) (next_cells (old.held.spots run.level run.slot) at run.len l));
+    follows = λ t w rest g. none_some _ _ (sym (gave_none old.held aim n o given e (p.gives t)) ∙ (f.follows t w rest).0 g ∙ ap (λ (xs : List LawCell). xs ++ rest) (next_cells (old.held.spots run.level run.slot) at run.len l));
     heads = p.heads;
     ticks = omega (arith, f.ticks, p.ticks, l);
     spends = spends_then f.spends p.spends;
     written_is = p.written ∙ f.written_is;
     cause = tt;
   }
-    where
-      nothing : Pulls aim (state (record one { held = old.held }) n j) (state two o k) (Ok given) → AreInOrder old.held aim → ahead old.held aim n ≡ []
-      nothing p t = subst (λ (x : Option Cell). Gives old.held aim n o (Ok x)) e (p.gives t)
 
 module _ {old one : State} (two : State) {aim : Aim} {run : Run} {m n o : Merger} {i j k at : ℕ} (f : Following old one aim run m n i j at) (given : Option Cell)
     (q : Pulls aim (state one n j) (state two o k) (Ok given)) where
@@ -187,7 +159,7 @@ module _ {old one : State} (two : State) {aim : Aim} {run : Run} {m n o : Merger
 
     module _ (gave read : Cell) (is : given ≡ Some gave) (r : Reads two new buffer run.level run.slot at (Ok read)) where
       first : AreInOrder old.held aim → ahead old.held aim n ≡ as_cell gave ∷ ahead old.held aim o
-      first t = subst (λ (x : Option Cell). Gives old.held aim n o (Ok x)) is (p.gives t)
+      first t = gave_some old.held aim n o given gave is (p.gives t)
 
       second : IsRunTold old.held run → cell_at (old.held.spots run.level run.slot at) ≡ as_cell read
       second w = given_is_told (old.held.spots run.level run.slot at) (cell_at (old.held.spots run.level run.slot at)) (as_cell read) (w at below)
@@ -200,7 +172,7 @@ module _ {old one : State} (two : State) {aim : Aim} {run : Run} {m n o : Merger
       -- another cell was given
       pub cells_differ : (as_cell gave ≡ as_cell read → ⊥) → Followed old new aim run m o i l (Ok false)
       cells_differ differ = record {
-        follows = λ t w rest g. differ (heads_same _ _ _ _ (sym (first t) ∙ (f.follows t w rest).0 g ∙ shown w rest));
+        follows = λ t w rest g. differ (parts_same _ _ _ _ (sym (first t) ∙ (f.follows t w rest).0 g ∙ shown w rest)).0;
         heads = p.heads;
         ticks = omega (arith, f.ticks, p.ticks, below, tick);
         spends = spends r;
@@ -214,7 +186,7 @@ module _ {old one : State} (two : State) {aim : Aim} {run : Run} {m n o : Merger
         cells_stay = r.cells_stay ∙ same;
         heads = p.heads;
         follows = λ t w rest. (
-          λ g. tails_same _ _ _ _ (sym (first t) ∙ (f.follows t w rest).0 g ∙ shown w rest),
+          λ g. (parts_same _ _ _ _ (sym (first t) ∙ (f.follows t w rest).0 g ∙ shown w rest)).1,
           λ g. (f.follows t w rest).1 (first t ∙ ap (λ (xs : List LawCell). as_cell gave ∷ xs) g ∙ ap (λ (x : LawCell). x ∷ (cells (old.held.spots run.level run.slot) (at + 1) (run.len - (at + 1)) ++ rest)) e ∙ sym (shown w rest)),
         );
         ticks = omega (arith, f.ticks, p.ticks, tick);
@@ -267,15 +239,8 @@ comparing_none object n h k = record {
 -- an answer by its opposite
 turned : (answer other : Bool) → not other ≡ not answer → answer ≡ other
 turned true true e = refl
-turned true false e = absurd (true≢false e)
-turned false true e = absurd (true≢false (sym e))
 turned false false e = refl
-
-gave_some : (held : Held) (aim : Aim) (m n : Merger) (given : Option Cell) (c : Cell) → given ≡ Some c → Gives held aim m n (Ok given) → ahead held aim m ≡ as_cell c ∷ ahead held aim n
-gave_some held aim m n given c e h = subst (λ (x : Option Cell). Gives held aim m n (Ok x)) e h
-
-gave_none : (held : Held) (aim : Aim) (m n : Merger) (given : Option Cell) → given ≡ None → Gives held aim m n (Ok given) → ahead held aim m ≡ []
-gave_none held aim m n given e h = subst (λ (x : Option Cell). Gives held aim m n (Ok x)) e h
+turned _ _ e = cc
 
 -- what a merge that reads by the other readers spends, the object does
 object-spends : (old new : State) {from to : ℕ} → Spends (by_others old).spent (by_others new).spent from to → Spends old.spent new.spent from to
@@ -342,7 +307,7 @@ module _ {old one : State} (two : State) {aim : Aim} {f0 f g s0 s : Merger} {i j
         pub both_differ : (gave read : Cell) → given ≡ Some gave → other ≡ Some read → (as_cell gave ≡ as_cell read → ⊥) → Compared old new aim f0 s0 i l (Ok false)
         both_differ gave read e n differ = answered false (λ t. (
           λ no. absurd (true≢false (sym no)),
-          λ x. absurd (differ (heads_same _ _ _ _ (sym (gave_some old.held aim f g given gave e (given_first.gives t)) ∙ (h.same t).0 x ∙ gave_some old.held aim s o other read n (q.gives t)))),
+          λ x. absurd (differ (parts_same _ _ _ _ (sym (gave_some old.held aim f g given gave e (given_first.gives t)) ∙ (h.same t).0 x ∙ gave_some old.held aim s o other read n (q.gives t))).0),
         ))
 
         -- they gave the same cell
@@ -352,7 +317,7 @@ module _ {old one : State} (two : State) {aim : Aim} {f0 f g s0 s : Merger} {i j
           one_heads = given_first.heads;
           two_heads = q.heads;
           same = λ t. (
-            λ x. tails_same _ _ _ _ (sym (gave_some old.held aim f g given gave e (given_first.gives t)) ∙ (h.same t).0 x ∙ gave_some old.held aim s o other read n (q.gives t)),
+            λ x. (parts_same _ _ _ _ (sym (gave_some old.held aim f g given gave e (given_first.gives t)) ∙ (h.same t).0 x ∙ gave_some old.held aim s o other read n (q.gives t))).1,
             λ x. (h.same t).1 (gave_some old.held aim f g given gave e (given_first.gives t) ∙ ap (λ (xs : List LawCell). as_cell gave ∷ xs) x ∙ ap (λ (y : LawCell). y ∷ ahead old.held aim o) is
                 ∙ sym (gave_some old.held aim s o other read n (q.gives t))),
           );
@@ -382,25 +347,22 @@ fewer_given {held} {aim} one two m {n} given c e stays q =
 
 -- ---- where a merge begins
 
-pub heads_at : {held : Held} {aim : Aim} {cursors : Cursors} {shadow : Run} → CutFits held aim cursors shadow → HasHeads held aim (resumed cursors)
-heads_at f = record {
-  own_feed = f.own;
-  incoming_feed = f.incoming;
-  sample_feed = f.sample;
-  own = record { within = f.own_within; cell = tt };
-  incoming = record { within = f.incoming_within; cell = tt };
-  sample = record { within = f.sample_within; cell = tt };
-}
+module _ {held : Held} {aim : Aim} {cursors : Cursors} {shadow : Run} (f : CutFits held aim cursors shadow) where
+  heads_from : (from : Cursors) → from.own ≤ feed_len aim.own → from.incoming ≤ feed_len aim.incoming → from.sample ≤ feed_len aim.sample → HasHeads held aim (resumed from)
+  heads_from from own incoming sample = record {
+    own_feed = f.own;
+    incoming_feed = f.incoming;
+    sample_feed = f.sample;
+    own = record { within = own; cell = tt };
+    incoming = record { within = incoming; cell = tt };
+    sample = record { within = sample; cell = tt };
+  }
 
-pub heads_fresh : {held : Held} {aim : Aim} {cursors : Cursors} {shadow : Run} → CutFits held aim cursors shadow → HasHeads held aim fresh
-heads_fresh f = record {
-  own_feed = f.own;
-  incoming_feed = f.incoming;
-  sample_feed = f.sample;
-  own = record { within = omega arith; cell = tt };
-  incoming = record { within = omega arith; cell = tt };
-  sample = record { within = omega arith; cell = tt };
-}
+  pub heads_at : HasHeads held aim (resumed cursors)
+  heads_at = heads_from cursors f.own_within f.incoming_within f.sample_within
+
+  pub heads_fresh : HasHeads held aim fresh
+  heads_fresh = heads_from (record { own = 0; incoming = 0; sample = 0 }) (omega arith) (omega arith) (omega arith)
 
 -- ---- the answer
 
@@ -421,10 +383,6 @@ module _ {held : Held} {aim : Aim} {cursors : Cursors} {shadow : Run} (f : CutFi
   )
 
 -- ---- causes and costs
-
-cause_before : (held : Held) (runs : List Run) (before between now : ℕ) (fault : ReadFault) → between ≡ before → PassCause held runs between now fault → PassCause held runs before now fault
-cause_before held runs before between now Device e c = subst (λ (x : ℕ). Rose x now) e c
-cause_before held runs before between now (BadCell number) e c = c
 
 costs_of : {a b : Spent} {i j n : ℕ} → Spends a b i j → b.written ≡ a.written → j ≤ i + n → Costs a b i j n n
 costs_of {a} {b} {i} {j} {n} s w l = record {
@@ -483,7 +441,7 @@ module _ {old one : State} {aim : Aim} {cursors : Cursors} {shadow : Run} {n : M
     second_tells calm (Err fault) q = record {
       cut = λ t w. tt;
       reads = record {
-        cause = with_run old.held shadow (runs_of_aim aim) old.spent.faults new.spent.faults fault (cause_before old.held (runs_of_aim aim) old.spent.faults one.spent.faults new.spent.faults fault calm q.cause);
+        cause = cause_among old.held (runs_of_aim aim) (shadow ∷ runs_of_aim aim) old.spent.faults new.spent.faults fault (λ number b. inr b) (subst (λ (x : ℕ). PassCause old.held (runs_of_aim aim) x new.spent.faults fault) calm q.cause);
         cost = costs_both q;
       };
     }

@@ -1,34 +1,14 @@
 -- The cells at the front of a walk, and what a run says of a key as a walk passes them.
-use Rattle.std.proofs.Common.{ℕ, arith, ◌≡◌, ◌⊎◌, inl, inr, suc, ◌+◌, ◌≤◌, ◌<◌, true, false, cond, List, [], ◌∷◌, length, drop, get_or, Option, None, Some, IsTrue, refl, sym, ap, subst, ◌∙◌}
-use Rattle.std.specs.Ordering.{is_eq}
-use Rattle.std.proofs.Math.Seq.{drop-cons}
-use Rattle.std.proofs.lemmas.List.{drop_all}
-use Rattle.cola_runs.specs.Seen.{Seen}
+use Rattle.std.proofs.Common.{ℕ, arith, ◌≡◌, ◌⊎◌, inl, inr, suc, ◌+◌, ◌≤◌, ◌<◌, true, false, cond, List, [], ◌∷◌, length, drop, get_or, Option, None, Some, IsTrue, refl, sym, ap, subst, ◌∙◌, is_eq, drop-cons}
+use Rattle.cola_check.proofs.Common.{drop_all, Seen, pass_key, Spent, costs_then, costs_within, Cell, Run, key_of, Held, Told, Tells, LawCell, Stamped, as_cell, as_item, key_cmp, run_tells, given_is_told, run_cells, length-cells}
+use Rattle.cola_check.proofs.Common.{Value, Turns, HeadFits, HeadIsRead, WalkFits, IsReady, rest, has_key, found_of, found_or, as_seen, passed_seen, heads_of, unread, ahead, Fetches, Passes, Found, Walk, IsRunTold, Said, said_of}
+use Rattle.cola_check.proofs.Common.{said_or, Hears}
 use Rattle.cola_runs.proofs.AtKey.{over}
+use Rattle.cola_cell.proofs.ToldRuns.{told_is}
+use Rattle.cola_check.specs.declared.walk.Found.TheVariants.{Nothing, Old, Young}
 use Rattle.cola_runs.specs.Cells as laws
 use Rattle.cola_runs.specs.Seen as seen
-use Rattle.cola_pairs.specs.Walk.{pass_key}
-use Rattle.cola_cell.specs.Spent.{Spent}
-use Rattle.cola_cell.proofs.CostsLemmas.{costs_then, costs_within}
-use Rattle.cola_cell.specs.declared.cell.Cell.{Cell}
-use Rattle.cola_cell.specs.declared.cell.Run.{Run}
-use Rattle.cola_cell.specs.Cell.{key_of}
-use Rattle.cola_cell.specs.Held.{Held, Told, Tells, LawCell, Stamped, as_cell, as_item}
-use Rattle.cola_cell.specs.Order.{key_cmp}
-use Rattle.cola_cell.proofs.RunLemmas.{run_tells, given_is_told}
-use Rattle.cola_cell.specs.ToldCells.{run_cells}
-use Rattle.cola_cell.proofs.ToldRuns.{told_is}
-use Rattle.cola_cell.proofs.CellLists.{length-cells}
-use Rattle.cola_cell.specs.declared.cell.Item.TheVariants.{Value, Tombstone}
 use Rattle.cola_cell.specs.declared.cell.Cell.TheVariants as cell
-use Rattle.cola_check.specs.Walks.{Turns, HeadFits, HeadIsRead, WalkFits, IsReady, rest, has_key, found_of, found_or, as_seen, passed_seen, heads_of, unread, ahead, Fetches, Passes}
-use Rattle.cola_check.specs.declared.walk.Found.{Found}
-use Rattle.cola_check.specs.declared.walk.Found.TheVariants.{Nothing, Old, Young}
-use Rattle.cola_check.specs.declared.walk.Walk.{Walk}
-use Rattle.cola_check.specs.Reading.{IsRunTold}
-use Rattle.cola_check.specs.declared.tally.Said.{Said}
-use Rattle.cola_check.specs.Tally.{said_of, said_or}
-use Rattle.cola_check.specs.LevelWalks.{Hears}
 use Rattle.cola_check.specs.declared.walk.Found.TheVariants as found
 
 -- ---- what calls that read spend, one after another
@@ -70,8 +50,7 @@ front_passed key (cell.Look k l) cells e = ap (λ b. cond b (pass_key key_cmp ke
 
 over_found : (a b : Found) (s : Seen Stamped) → over (as_seen a) (over (as_seen b) s) ≡ over (as_seen (found_or a b)) s
 over_found Nothing b s = refl
-over_found (Old i) b s = refl
-over_found (Young i) b s = refl
+over_found _ b s = refl
 
 front_seen : (key : List ℕ) (c : Cell) (cells : List LawCell) → is_eq (key_cmp key (key_of c)) ≡ true → passed_seen key (as_cell c ∷ cells) ≡ over (as_seen (found_of (Some c))) (passed_seen key cells)
 front_seen key (cell.Item k i true l) cells e = ap (λ b. cond b (seen.Young (as_item i)) seen.Nothing) e
@@ -163,8 +142,7 @@ module _ {held : Held} {key : List ℕ} {old walk behind new : Walk} {found : Fo
 
 over_nothing : (s : Seen Stamped) → over s seen.Nothing ≡ s
 over_nothing seen.Nothing = refl
-over_nothing (seen.Old i) = refl
-over_nothing (seen.Young i) = refl
+over_nothing _ = refl
 
 pass_stops : (key : List ℕ) (c : Cell) (cells : List LawCell) → is_eq (key_cmp key (key_of c)) ≡ false →
     (pass_key key_cmp key (as_cell c ∷ cells) ≡ as_cell c ∷ cells) × (passed_seen key (as_cell c ∷ cells) ≡ seen.Nothing)
@@ -220,11 +198,9 @@ ahead_falls {old = old} {new = new} p h =
 -- ---- what the run says
 
 said_joins : (a b : Found) → said_or (said_of a) (said_of b) ≡ said_of (found_or a b)
-said_joins found.Nothing b = refl
 said_joins (found.Old (Value value stamp)) b = refl
-said_joins (found.Old Tombstone) b = refl
 said_joins (found.Young (Value value stamp)) b = refl
-said_joins (found.Young Tombstone) b = refl
+said_joins _ b = refl
 
 -- a walk on its way past the cells of a key, and what these say
 pub record Hearing (held : Held) (key : List ℕ) (old new : Walk) (said : Said) : Type 0 where

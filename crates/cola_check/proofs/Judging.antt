@@ -1,71 +1,27 @@
 -- The answer of a test by that of its cells, and by that of their load.
-use Rattle.std.proofs.Common.{◌≡◌, ℕ, zero, suc, ◌+◌, ◌*◌, ◌^◌, ◌<◌, ◌≤◌, arith, subst, ap, ◌≢◌, inl, inr, min, ◌==◌, true, false, if◌then◌else◌, List, Option, None, Some, Result, Ok, Err, OnOk, is_some, refl, sym, ◌∙◌}
-use Rattle.std.proofs.Math.Nat.{two-pow-succ}
-use Rattle.std.specs.Prelude.{IfSome}
-use Rattle.std.proofs.lemmas.Bool.{true≢false}
-use Rattle.std.proofs.lemmas.Option.{IfSome_then}
-use Rattle.cola_outside.specs.Faults.{Rose}
-use Rattle.cola_device.specs.declared.device.Device as device
-use Rattle.cola_cell.specs.Places.{number_of, slot_size}
-use Rattle.cola_cell.specs.declared.cell.Cell.{Cell}
-use Rattle.cola_cell.specs.declared.fault.ReadFault.{ReadFault}
+use Rattle.std.proofs.Common.{◌≡◌, ℕ, zero, suc, ◌+◌, ◌*◌, ◌^◌, ◌<◌, ◌≤◌, arith, subst, ap, ◌≢◌, inl, inr, min, ◌==◌, true, false, if◌then◌else◌, List, Option, None, Some, Result, Ok, Err, OnOk, is_some, refl, sym, ◌∙◌, IfSome}
+use Rattle.std.proofs.Common.{true≢false}
+use Rattle.cola_check.proofs.Common.{IfSome_then, Rose, number_of, slot_size, Cell, ReadFault, Held, Bad, IsTelling, is_untold, ReadCalm, State, IsTold, visible_slot, exponent-le, next_power, place-from, place-below, Geometry}
+use Rattle.cola_check.proofs.Common.{Header, fields_of, number-at, Verdict, Broken, Tested, tested_of, IsOfRun, IsLowestBad, run_len, IsVerdict, test_ticks, IsLevelOf, IsSure, Judges, TestsAnswer, test_blocks, IsReadBy}
+use Rattle.cola_check.proofs.Common.{ReadsCells, TestsMade, Checks, test_reads, run_ticks, Tests, CheckFault, tested_by}
 use Rattle.cola_cell.specs.Decoded.{decoded}
 use Rattle.cola_cell.specs.Flat.{spot_of}
-use Rattle.cola_cell.specs.Held.{Held, Bad, IsTelling, is_untold}
-use Rattle.cola_cell.specs.Spent.{ReadCalm}
-use Rattle.cola_cell.specs.State.{State}
-use Rattle.cola_cell.specs.ToldCells.{IsTold}
-use Rattle.cola_cell.specs.declared.fault.ReadFault.TheVariants as read
-use Rattle.cola_clock.specs.Clock.{visible_slot}
 use Rattle.cola_clock.specs.Marks.{Marks as LevelMarks}
-use Rattle.cola_layout.proofs.Powers.{exponent-le, next_power}
 use Rattle.cola_layout.specs.Cells.{cell_bytes, file_spots}
-use Rattle.cola_layout.specs.declared.geometry.Geometry.{Geometry}
-use Rattle.cola_layout.specs.declared.header.Header.{Header}
-use Rattle.cola_layout.specs.Fields.{fields_of}
-use Rattle.cola_layout.proofs.Levels.{number-at}
 use Rattle.cola_opening.proofs.Spending.{spends-then}
 use Rattle.cola_opening.specs.Judged.{IsSeen, IsClosedWith, IsClosedFile}
-use Rattle.cola_run.specs.Saving as run
 use Rattle.cola_verdict.specs.declared.verdict.Flaw.TheVariants.{Cell as CellFlaw}
-use Rattle.cola_verdict.specs.declared.verdict.Verdict.{Verdict}
-use Rattle.cola_verdict.specs.declared.verdict.Verdict.TheVariants.{Broken}
-use Rattle.cola_verdict.specs.Tests.{Tested, tested_of, IsOfRun, IsLowestBad, run_len}
-use Rattle.cola_verdict.specs.Verdict.{IsVerdict}
 use Rattle.cola_verdict.proofs.Alike.{same-verdicts}
-use Rattle.cola_check.specs.Check.{test_ticks, IsLevelOf, IsSure, Judges, TestsAnswer, test_blocks, IsReadBy, ReadsCells, TestsMade, Checks, test_reads}
-use Rattle.cola_check.specs.Testing.{run_ticks, Tests}
-use Rattle.cola_check.specs.declared.fault.CheckFault.{CheckFault}
-use Rattle.cola_check.specs.Found.{tested_by}
-use Rattle.cola_check.specs.declared.fault.CheckFault.TheVariants.{NotStore, NotClosed, Small, Device, OutOfMemory}
+use Rattle.cola_check.specs.declared.fault.CheckFault.TheVariants.{Device}
 use Rattle.cola_check.proofs.BadRuns.{level-in, level-low, run-fits}
+use Rattle.cola_device.specs.declared.device.Device as device
+use Rattle.cola_cell.specs.declared.fault.ReadFault.TheVariants as read
+use Rattle.cola_run.specs.Saving as run
 
 -- ---- the level of a cell by its number: the two slots of level l have the numbers from 2 ^ (l + 3) on and below 2 ^ (l + 4)
 
-split : (s p i : ℕ) → s < 2 → (2 + s) * p + i ≡ (p + p) + (s * p + i)
-split zero p i h = omega arith
-split (suc zero) p i h = omega arith
-split (suc (suc s)) p i h = absurd (omega (arith, h))
-
-least : (l s i : ℕ) → s < 2 → 2 ^ (l + 3) ≤ number_of l s i
-least l s i h =
-    let d : 2 ^ (l + 3) ≡ 2 ^ (l + 2) + 2 ^ (l + 2) = next_power (l + 2) (l + 3) (omega arith) in
-    let e : number_of l s i ≡ (2 ^ (l + 2) + 2 ^ (l + 2)) + (s * 2 ^ (l + 2) + i) = split s (2 ^ (l + 2)) i h in
-    omega (arith, d, e)
-
-small-slot : (s p : ℕ) → s < 2 → s * p ≤ p
-small-slot zero p h = omega arith
-small-slot (suc zero) p h = omega arith
-small-slot (suc (suc s)) p h = absurd (omega (arith, h))
-
 most : (l s i : ℕ) → s < 2 → i < slot_size l → number_of l s i < 2 ^ suc (l + 3)
-most l s i h k =
-    let d : 2 ^ (l + 3) ≡ 2 ^ (l + 2) + 2 ^ (l + 2) = next_power (l + 2) (l + 3) (omega arith) in
-    let d' : 2 ^ suc (l + 3) ≡ 2 ^ (l + 3) + 2 ^ (l + 3) = two-pow-succ (l + 3) in
-    let e : number_of l s i ≡ (2 ^ (l + 2) + 2 ^ (l + 2)) + (s * 2 ^ (l + 2) + i) = split s (2 ^ (l + 2)) i h in
-    let f : s * 2 ^ (l + 2) ≤ 2 ^ (l + 2) = small-slot s (2 ^ (l + 2)) h in
-    let k' : i < 2 ^ (l + 2) = k in
-    omega (arith, d, d', e, f, k')
+most l s i h k = subst (λ (n : ℕ). number_of l s i < 2 ^ n) (let e : l + 4 ≡ suc (l + 3) = omega arith in e) (place-below l s i (omega (arith, h)) k)
 
 -- a level that is not behind the number's, and not before it
 pub not-behind : (n level l s i : ℕ) → n ≡ number_of l s i → s < 2 → i < slot_size l → (0 < level → 2 ^ (level + 3) ≤ n) → level ≤ l
@@ -78,7 +34,7 @@ not-behind n (suc level) l s i e h k reached =
 
 pub not-before : (n level l s i : ℕ) → n ≡ number_of l s i → s < 2 → n < 2 ^ (level + 4) → l ≤ level
 not-before n level l s i e h below =
-    let low : 2 ^ (l + 3) ≤ number_of l s i = least l s i h in
+    let low : 2 ^ (l + 3) ≤ number_of l s i = place-from l s i in
     let is : level + 4 ≡ suc (level + 3) = omega arith in
     let up : n < 2 ^ suc (level + 3) = subst (λ (k : ℕ). n < 2 ^ k) is below in
     let le : l + 3 ≤ level + 3 = exponent-le (l + 3) (level + 3) (omega (arith, up, low, e)) in
@@ -87,7 +43,7 @@ not-before n level l s i e h below =
 -- a lower number is not of a later level
 pub not-later : (l s i level slot index : ℕ) → s < 2 → slot < 2 → index < slot_size level → number_of l s i < number_of level slot index → l ≤ level
 not-later l s i level slot index h k within below =
-    let low : 2 ^ (l + 3) ≤ number_of l s i = least l s i h in
+    let low : 2 ^ (l + 3) ≤ number_of l s i = place-from l s i in
     let up : number_of level slot index < 2 ^ suc (level + 3) = most level slot index k within in
     let le : l + 3 ≤ level + 3 = exponent-le (l + 3) (level + 3) (omega (arith, low, up, below)) in
     omega (arith, le)
@@ -188,8 +144,7 @@ module _ {D : Type 0} (d : device.Ghosts D) (header : Header) (before now : D) w
 
   in-front : (told : Option (List ℕ)) (level number : ℕ) → IsLevelOf number level → IfSome told (λ bytes. run.IsLowestBad header (file_spots header.geometry.format bytes) number) →
       IfSome told (λ bytes. IsVerdict (tested_of (fields_of header) bytes) (Broken CellFlaw level number))
-  in-front None level number of bad = tt
-  in-front (Some bytes) level number of bad = (tt, lowest-of-all header bytes level number of bad)
+  in-front told level number of bad = IfSome_then told bad (λ bytes b. (tt, lowest-of-all header bytes level number of b))
 
   -- the same, by that of a load that was refused
   pub by-load : (fault : ReadFault) (result : Result Verdict CheckFault) →
@@ -235,10 +190,7 @@ module _ {D : Type 0} (d : device.Ghosts D) (header : Header) (before mid now : 
       }
   tested (Err Device) seen rose reads =
       inr (record { header = fields_of header; was = seen.why_is; cause = subst (λ (n : ℕ). Rose n (d.counts now).faults) seen.no_fault rose; reading = is-read seen reads })
-  tested (Err NotStore) seen none reads = absurd none
-  tested (Err Small) seen none reads = absurd none
-  tested (Err NotClosed) seen none reads = absurd none
-  tested (Err OutOfMemory) seen none reads = absurd none
+  tested _ seen none reads = absurd none
 
   pub checks : (result : Result Verdict CheckFault) → IsSeen d before (IsClosedWith (fields_of header)) 1 1 mid → TestsMade d header mid now from to result → Checks d before now from to result
   checks result seen (inl made) = tested result seen made.0 made.1

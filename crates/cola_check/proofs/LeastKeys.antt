@@ -1,27 +1,16 @@
 -- The least keys of walks, and of those down to each level.
-use Rattle.std.proofs.Common.{◌≡◌, ℕ, List, true, refl, ◌⊎◌, inl, inr, false, cond, [], ◌∷◌, Option, None, Some, IsTrue, sym, ap, ◌∙◌, zero, suc, ◌-◌, ◌<◌, length, take, get_or, Result, Ok, Err, OnOk, subst, arith}
-use Rattle.std.specs.Ordering.{is_eq, is_lt, is_gt, ordering_reverse}
-use Rattle.std.specs.Cmp.{IsTotalOrder, upto, tied_itself}
+use Rattle.std.proofs.Common.{◌≡◌, ℕ, List, true, refl, ◌⊎◌, inl, inr, false, cond, [], ◌∷◌, Option, None, Some, IsTrue, sym, ap, ◌∙◌, zero, suc, ◌-◌, ◌<◌, length, take, get_or, Result, OnOk, subst, arith, is_eq, is_lt}
+use Rattle.cola_check.proofs.Common.{IsTotalOrder, tied_itself, AllByRecursion, refill, take-length, on_ok_weaker, same_Some, equal, by_bool, by_ordering, is_less, all_change, not_below_then, Cell, key_of, as_cell, Held, key_cmp}
+use Rattle.cola_check.proofs.Common.{ReadFault, Walk, has_key, lesser, least_from, Passes, LevelWalks, walks_in, LevelFits, IsLevelReady, Each, PassesLevel, AreLeasts, AreFirstLeasts, IsAwayFrom, AreAwayFrom, Stays, IsHushed}
+use Rattle.cola_check.proofs.Common.{FirstStay}
+use Rattle.std.specs.Ordering.{ordering_reverse}
 use Rattle.std.specs.Cmp.Lexicographic.{nat_list_cmp_total}
 use Rattle.std.specs.FinMap.{IsAntisymmetric, slice_cmp-IsAntisymmetric, nat_cmp-IsAntisymmetric}
-use Rattle.std.specs.List.{AllByRecursion, refill}
-use Rattle.std.proofs.Math.Seq.{take-length}
-use Rattle.cola_runs.specs.Cells as laws
-use Rattle.cola_pairs.proofs.Order.{equal, by_bool, by_ordering, is_less, all_change}
-use Rattle.cola_cell.specs.declared.cell.Cell.{Cell}
-use Rattle.cola_cell.specs.Cell.{key_of}
-use Rattle.cola_cell.specs.Held.{as_cell, Held}
-use Rattle.cola_cell.specs.Order.{key_cmp}
-use Rattle.cola_cell.specs.declared.fault.ReadFault.{ReadFault}
-use Rattle.cola_cell.specs.declared.cell.Cell.TheVariants as cell
-use Rattle.cola_check.specs.declared.walk.Walk.{Walk}
-use Rattle.cola_check.specs.Walks.{has_key, lesser, least_from, Passes}
-use Rattle.cola_check.specs.declared.level_walks.LevelWalks.{LevelWalks}
-use Rattle.cola_check.specs.LevelWalks.{walks_in, LevelFits, IsLevelReady, Each, PassesLevel}
-use Rattle.cola_check.specs.Leasts.{AreLeasts, AreFirstLeasts, IsAwayFrom, AreAwayFrom, Stays, IsHushed, FirstStay}
-use Rattle.cola_check.specs.declared.walk.Found.TheVariants as found
 use Rattle.cola_check.proofs.Fronts.{stands_still}
 use Rattle.cola_check.proofs.Levels.{refilled}
+use Rattle.cola_runs.specs.Cells as laws
+use Rattle.cola_cell.specs.declared.cell.Cell.TheVariants as cell
+use Rattle.cola_check.specs.declared.walk.Found.TheVariants as found
 
 -- ---- the order of keys, and the keys of cells
 
@@ -39,20 +28,6 @@ pub same_key : (x y : List ℕ) → is_eq (key_cmp x y) ≡ true → x ≡ y
 same_key x y e = keys_alike x y (equal _ e)
 
 -- ---- what is below a key, and what is not
-
-not_lt : (x y : List ℕ) → is_lt (key_cmp y x) ≡ false → is_gt (key_cmp x y) ≡ false
-not_lt x y e =
-    ap is_gt (key_total.antisymm x y)
-    ∙ by_ordering (λ r. is_lt r ≡ false → is_gt (ordering_reverse r) ≡ false) (λ f. cc) (λ f. refl) (λ f. refl) (key_cmp y x) e
-
-not_gt : (x y : List ℕ) → is_gt (key_cmp x y) ≡ false → is_lt (key_cmp y x) ≡ false
-not_gt x y e =
-    ap is_lt (key_total.antisymm y x)
-    ∙ by_ordering (λ r. is_gt r ≡ false → is_lt (ordering_reverse r) ≡ false) (λ f. refl) (λ f. refl) (λ f. cc) (key_cmp x y) e
-
--- what is not below y, and y not below z
-not_below : (x y z : List ℕ) → is_lt (key_cmp x y) ≡ false → is_lt (key_cmp y z) ≡ false → is_lt (key_cmp x z) ≡ false
-not_below x y z e f = not_gt z x (upto key_total z y x (not_lt z y f) (not_lt y x e))
 
 less_not : (x y : List ℕ) → is_lt (key_cmp x y) ≡ true → is_lt (key_cmp y x) ≡ false
 less_not x y e = ap is_lt (key_total.antisymm y x) ∙ ap (λ r. is_lt (ordering_reverse r)) (is_less _ e)
@@ -87,25 +62,22 @@ record Lowers (before : Option (List ℕ)) (head : Option Cell) (k : List ℕ) (
   first : ((a : List ℕ) → after ≡ Some a → is_lt (key_cmp a k) ≡ false) → (a : List ℕ) → before ≡ Some a → is_lt (key_cmp a k) ≡ false
   any : after ≡ Some k → (before ≡ Some k) ⊎ IsTrue (has_key k head)
 
-same_some : (a b : List ℕ) → Some a ≡ Some b → a ≡ b
-same_some a b e = cc
-
 lowers : (before : Option (List ℕ)) (head : Option Cell) (k : List ℕ) → Lowers before head k (lesser before head)
 lowers before None k = record { from = λ h. tt; first = λ h. h; any = λ e. inl e }
 lowers None (Some c) k = record {
   from = λ h. h (key_of c) refl;
   first = λ h a f. cc;
-  any = λ f. inr (ap (λ x. is_eq (key_cmp k x)) (same_some (key_of c) k f) ∙ itself_equal k);
+  any = λ f. inr (ap (λ x. is_eq (key_cmp k x)) (same_Some (key_of c) k f) ∙ itself_equal k);
 }
 lowers (Some l) (Some c) k =
     by_bool (λ t. is_lt (key_cmp (key_of c) l) ≡ t → Lowers (Some l) (Some c) k (cond t (Some (key_of c)) (Some l)))
     (λ t. record {
       from = λ h. h (key_of c) refl;
-      first = λ h a f. not_below a (key_of c) k (ap (λ x. is_lt (key_cmp x (key_of c))) (sym (same_some l a f)) ∙ less_not (key_of c) l t) (h (key_of c) refl);
-      any = λ f. inr (ap (λ x. is_eq (key_cmp k x)) (same_some (key_of c) k f) ∙ itself_equal k);
+      first = λ h a f. not_below_then key_total (key_of c) a k (ap (λ x. is_lt (key_cmp x (key_of c))) (sym (same_Some l a f)) ∙ less_not (key_of c) l t) (h (key_of c) refl);
+      any = λ f. inr (ap (λ x. is_eq (key_cmp k x)) (same_Some (key_of c) k f) ∙ itself_equal k);
     })
     (λ t. record {
-      from = λ h. not_below (key_of c) l k t (h l refl);
+      from = λ h. not_below_then key_total l (key_of c) k t (h l refl);
       first = λ h. h;
       any = λ f. inl f;
     })
@@ -114,7 +86,7 @@ lowers (Some l) (Some c) k =
 pub least_is : (before : Option (List ℕ)) (walks : List Walk) (k : List ℕ) → least_from before walks ≡ Some k → IsLeast before walks k
 least_is before [] k e = record {
   from = tt;
-  first = λ a f. ap (λ x. is_lt (key_cmp x k)) (same_some a k (sym f ∙ e)) ∙ itself k;
+  first = λ a f. ap (λ x. is_lt (key_cmp x k)) (same_Some a k (sym f ∙ e)) ∙ itself k;
   any = inl e;
 }
 least_is before (walk ∷ walks) k e =
@@ -147,9 +119,8 @@ least_none before (walk ∷ walks) e =
 
 pub leasts-many : (before : Option (List ℕ)) (leasts : List (Option (List ℕ))) (levels : List LevelWalks) → AreLeasts before leasts levels → length leasts ≡ length levels
 leasts-many before [] [] h = refl
-leasts-many before [] (level ∷ levels) h = absurd h
-leasts-many before (least ∷ leasts) [] h = absurd h
 leasts-many before (least ∷ leasts) (level ∷ levels) h = ap suc (leasts-many least leasts levels h.1)
+leasts-many before _ _ h = absurd h
 
 -- it is the least of the walks down to there
 entry-is : (before : Option (List ℕ)) (leasts : List (Option (List ℕ))) (levels : List LevelWalks) → AreLeasts before leasts levels → (i : ℕ) (x : Option (List ℕ)) → i < length leasts → x ≡ get_or leasts i x →
@@ -187,19 +158,17 @@ any_from k m [] h a = absurd a
 any_from k m (walk ∷ walks) h (inl a) = head_from k m walk.head h.0 a
 any_from k m (walk ∷ walks) h (inr a) = any_from k m walks h.1 a
 
-some_head : (m : List ℕ) (walks : List Walk) → (None ≡ Some m) ⊎ AnyHas m walks → AnyHas m walks
+pub some_head : (m : List ℕ) (walks : List Walk) → (None ≡ Some m) ⊎ AnyHas m walks → AnyHas m walks
 some_head m walks (inl e) = cc
 some_head m walks (inr a) = a
 
 first_from : (k : List ℕ) (n : ℕ) (levels : List LevelWalks) → AllByRecursion (λ walk. HeadFrom k walk.head) (walks_in levels) → AllByRecursion (λ walk. HeadFrom k walk.head) (walks_in (take n levels))
-first_from k zero levels h = tt
-first_from k (suc n) [] h = tt
 first_from k (suc n) (level ∷ levels) h = (h.0, (h.1.0, first_from k n levels h.1.1))
+first_from k _ _ h = tt
 
 are_away : (n : ℕ) (k : List ℕ) (levels : List LevelWalks) → AllByRecursion (λ walk. has_key k walk.head ≡ false) (walks_in (take n levels)) → AreAwayFrom n k levels
-are_away zero k levels h = tt
-are_away (suc n) k [] h = tt
 are_away (suc n) k (level ∷ levels) h = (record { visible = h.0; shadow = h.1.0 }, are_away n k levels h.1.1)
+are_away _ k _ h = tt
 
 -- heads from a key on, whose least is not that key, have it not
 none_has : (k : List ℕ) (walks : List Walk) → AllByRecursion (λ walk. HeadFrom k walk.head) walks → (least : Option (List ℕ)) → least_from None walks ≡ least → (least ≡ Some k → ⊥) → AllByRecursion (λ walk. has_key k walk.head ≡ false) walks
@@ -236,26 +205,23 @@ stays-passes {held} k old new f r a s h = record {
 
 pub stays-then : {T : Type 0} (held : Held) (k : List ℕ) (result : Result T ReadFault) (n : ℕ) (levels : List LevelWalks) (old new : LevelWalks) (olds news : List LevelWalks) → levels ≡ old ∷ olds → 0 < n →
     AllByRecursion (LevelFits held) levels → AllByRecursion IsLevelReady levels → AreAwayFrom n k levels → Stays old new → IsHushed old new → OnOk result (Each (PassesLevel held k) olds news) → OnOk result (Each (PassesLevel held k) levels (new ∷ news))
-stays-then held k (Err fault) n levels old new olds news is l f r a s h p = tt
-stays-then held k (Ok answer) n levels old new olds news is l f r a s h p =
+stays-then held k result n levels old new olds news is l f r a s h =
     let fits = subst (AllByRecursion (LevelFits held)) is f in
     let ready = subst (AllByRecursion IsLevelReady) is r in
     let away = away-here n k old olds l (subst (AreAwayFrom n k) is a) in
-    subst (λ (ls : List LevelWalks). Each (PassesLevel held k) ls (new ∷ news)) (sym is) (stays-passes k old new fits.0 ready.0 away s h, p)
+    on_ok_weaker result (λ p. subst (λ (ls : List LevelWalks). Each (PassesLevel held k) ls (new ∷ news)) (sym is) (stays-passes k old new fits.0 ready.0 away s h, p))
 
 -- ---- a step
 
 -- the least keys of the first levels stay where their walks do
 pub kept-on : (n : ℕ) (before : Option (List ℕ)) (leasts : List (Option (List ℕ))) (olds news : List LevelWalks) → AreLeasts before leasts olds → FirstStay n olds news → AreFirstLeasts n before leasts news
-kept-on zero before leasts olds news h s = tt
-kept-on (suc n) before [] olds news h s = tt
 kept-on (suc n) before (least ∷ leasts) [] news h s = absurd h
-kept-on (suc n) before (least ∷ leasts) (old ∷ olds) [] h s = tt
 kept-on (suc n) before (least ∷ leasts) (old ∷ olds) (new ∷ news) h s = (
   h.0 ∙ ap (λ (walk : Walk). lesser (lesser before walk.head) old.shadow.walk.head) (sym s.0.visible)
       ∙ ap (λ (walk : Walk). lesser (lesser before new.visible.walk.head) walk.head) (sym s.0.shadow),
   kept-on n least leasts olds news h.1 s.1,
 )
+kept-on _ before _ _ _ h s = tt
 
 -- the least key of all walks, by the answer
 pub leads : {leasts items : List (Option (List ℕ))} (walks : List LevelWalks) {answer wanted : Option (List ℕ)} → ((levels : List LevelWalks) → AreLeasts None leasts levels → answer ≡ least_from None (walks_in levels)) →

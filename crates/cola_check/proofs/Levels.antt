@@ -1,42 +1,26 @@
 -- The levels of a file, by the runs that its header names, and lists of levels.
-use Rattle.std.proofs.Common.{◌≡◌, ◌∙◌, ℕ, zero, suc, ◌+◌, ◌-◌, ◌%◌, ◌<◌, ◌≤◌, ◌==◌, if◌then◌else◌, List, [], ◌∷◌, length, drop, refl, sym, ap, subst, arith, inl, inr, ◌++◌, take, get_or, Option}
-use Rattle.std.proofs.Common.{None, Some, IfSome, Result, Ok, Err, IfErr, IsErrAnd, length-append, Bool, true, false, cond}
-use Rattle.std.proofs.lemmas.List.{drop_all, take-append-le, take_more, drop_more}
-use Rattle.std.specs.List.{slice_index_or, refill}
-use Rattle.std.proofs.Math.Seq.{take-length}
-use Rattle.cola_laws.specs.Chain.{visibles}
+use Rattle.std.proofs.Common.{◌≡◌, ◌∙◌, ℕ, zero, suc, ◌+◌, ◌-◌, ◌%◌, ◌<◌, ◌≤◌, ◌==◌, if◌then◌else◌, List, [], ◌∷◌, length, drop, refl, sym, ap, subst, arith, inl, inr, ◌++◌, take, get_or, Option, Ordering, None, Some, IfSome}
+use Rattle.std.proofs.Common.{Result, Ok, Err, IfErr, IsErrAnd, length-append, cond, slice_index_or}
+use Rattle.cola_check.proofs.Common.{cases_lt, drop_all, take-append-le, take_more, drop_more, AllByRecursion, refill, IsStrictlySortedBy, take-length, visibles, Held, LawCell, Spots, run_cells, Run, ReadFault, Device, BadCell}
+use Rattle.cola_check.proofs.Common.{period, visible_slot, is_odd, Header, all_numbers, numbers-length, HasRun, FileLevel, Tested, levels_in, level_at, below_at, run_len, AreCellsTold, tested_by, numbers_at, visible_of, shadow_of}
+use Rattle.cola_check.proofs.Common.{IsRunTold, HasBadRun, PassCause, LevelRuns, LevelWalks, shadow_or_none, with_shadow, runs_of, cells_in, level_unread, unread_level_begun, all_unread, Each, next_of, by_bool}
 use Rattle.cola_laws.specs.Slots.{level_of, levels_of}
-use Rattle.cola_cell.specs.Held.{Held, LawCell, Spots}
-use Rattle.cola_cell.specs.ToldCells.{run_cells}
-use Rattle.cola_cell.specs.declared.cell.Run.{Run}
-use Rattle.cola_cell.specs.declared.fault.ReadFault.{ReadFault}
-use Rattle.cola_cell.specs.declared.fault.ReadFault.TheVariants.{Device, BadCell}
-use Rattle.cola_clock.specs.Clock.{period, visible_slot, is_odd}
 use Rattle.cola_clock.specs.Marks.{Marks, marks_at}
 use Rattle.cola_layout.specs.Cells.{slot_cells}
-use Rattle.cola_layout.specs.declared.header.Header.{Header}
-use Rattle.cola_layout.specs.Marks.{all_numbers}
-use Rattle.cola_layout.proofs.Levels.{numbers-length}
-use Rattle.cola_look.specs.Runs.{HasRun}
-use Rattle.cola_verdict.specs.Tests.{FileLevel, Tested, levels_in, level_at, below_at, run_len, AreCellsTold}
-use Rattle.cola_check.specs.Found.{tested_by, numbers_at, visible_of, shadow_of}
-use Rattle.cola_check.specs.Reading.{IsRunTold, HasBadRun, PassCause}
-use Rattle.cola_check.specs.declared.level_walks.LevelRuns.{LevelRuns}
-use Rattle.cola_check.specs.declared.level_walks.LevelWalks.{LevelWalks}
-use Rattle.cola_check.specs.LevelWalks.{shadow_or_none, with_shadow, runs_of, cells_in, level_unread, unread_level_begun, all_unread, Each}
-use Rattle.cola_check.specs.Shadows.{next_of}
+use Rattle.cola_verdict.proofs.Runs.{levels-length}
 
 -- ---- levels in slots, by their number
 
 module _ (spots : Spots) (t : ℕ) where
-  many : (j : ℕ) (marks : List Marks) → length (levels_of (slot_cells spots) t j marks) ≡ length marks
-  many j [] = refl
-  many j (m ∷ marks) = ap suc (many (suc j) marks)
-
   at : (j i : ℕ) (marks : List Marks) → i < length marks → level_at (levels_of (slot_cells spots) t j marks) i ≡ level_of (slot_cells spots) t (j + i) (marks_at marks i)
   at j i [] h = absurd (omega (arith, h))
   at j zero (m ∷ marks) h = ap (λ (n : ℕ). level_of (slot_cells spots) t n m) (let e : j ≡ j + 0 = omega arith in e)
   at j (suc i) (m ∷ marks) h = at (suc j) i marks (omega (arith, h)) ∙ ap (λ (n : ℕ). level_of (slot_cells spots) t n (marks_at marks i)) (let e : suc j + i ≡ j + suc i = omega arith in e)
+
+-- no elements are in order
+pub none-sorted : {X : Type 0} (R : X → X → Ordering) → IsStrictlySortedBy R []
+unfolding IsStrictlySortedBy
+none-sorted R = tt
 
 -- the list from a place on is what stands there and the list behind it
 pub drop-at : {X : Type 0} (d : X) (xs : List X) (j : ℕ) → j < length xs → drop j xs ≡ slice_index_or xs j d ∷ drop (suc j) xs
@@ -53,26 +37,22 @@ slot-in t j = let h : period t j % 2 < 2 = omega arith in h
 pub other-in : (v : ℕ) → 1 - v < 2
 other-in v = omega arith
 
-here : (v : ℕ) → v < 2 → (visible shadow : ℕ) → (if v == v then visible else shadow) ≡ visible
-here zero h visible shadow = refl
-here (suc zero) h visible shadow = refl
-here (suc (suc v)) h visible shadow = absurd (omega (arith, h))
-
-there : (v : ℕ) → v < 2 → (visible shadow : ℕ) → (if 1 - v == v then visible else shadow) ≡ shadow
-there zero h visible shadow = refl
-there (suc zero) h visible shadow = refl
-there (suc (suc v)) h visible shadow = absurd (omega (arith, h))
+-- what is told by a level's visible slot, at that slot and at the other
+in-slots : (v : ℕ) → v < 2 → (visible shadow : ℕ) → ((if v == v then visible else shadow) ≡ visible) × ((if 1 - v == v then visible else shadow) ≡ shadow)
+in-slots zero h visible shadow = (refl, refl)
+in-slots (suc zero) h visible shadow = (refl, refl)
+in-slots (suc (suc v)) h visible shadow = absurd (omega (arith, h))
 
 -- ---- the next run of a level
 
--- one of two runs
-by-odd : (P : Run → Type 0) (odd : Bool) (shadow visible : Run) → P shadow → P visible → P (cond odd shadow visible)
-by-odd P true shadow visible s v = s
-by-odd P false shadow visible s v = v
-
 -- it is one of the level below
 pub of-next : (header : Header) (P : Run → Type 0) (level : ℕ) → P (shadow_of header (suc level)) → P (visible_of header (suc level)) → P (next_of header level)
-of-next header P level s v = by-odd P (is_odd (period header.clock level)) (shadow_of header (suc level)) (visible_of header (suc level)) s v
+of-next header P level s v = by_bool (λ odd. P (cond odd (shadow_of header (suc level)) (visible_of header (suc level)))) s v (is_odd (period header.clock level))
+
+-- what is one thing above the bottom and another at the bottom has what both have
+pub by-place : (header : Header) (level : ℕ) {X : Type 0} (P : X → Type 0) {x upper lowest : X} → (level < header.geometry.bottom → x ≡ upper) → (header.geometry.bottom ≤ level → x ≡ lowest) →
+    (level < header.geometry.bottom → P upper) → (header.geometry.bottom ≤ level → P lowest) → P x
+by-place header level P above bottom p q = elim (cases_lt level header.geometry.bottom) [ inl h ↦ subst P (sym (above h)) (p h) | inr h ↦ subst P (sym (bottom h)) (q h) ]
 
 -- ---- the levels of a file
 
@@ -87,9 +67,9 @@ module _ (header : Header) (held : Held) where
   marks-many = let size = numbers-length header.levels.items in let one = header.one_each in omega (arith, size, one)
 
   pub levels-many : length levels ≡ header.geometry.bottom + 1
-  levels-many = many held.spots header.clock 0 (all_numbers header.levels.items) ∙ marks-many
+  levels-many = levels-length held.spots header.clock (all_numbers header.levels.items) ∙ marks-many
 
-  level-is : (j : ℕ) → j ≤ header.geometry.bottom → level_at levels j ≡ level_of (slot_cells held.spots) header.clock j (numbers_at header j)
+  pub level-is : (j : ℕ) → j ≤ header.geometry.bottom → level_at levels j ≡ level_of (slot_cells held.spots) header.clock j (numbers_at header j)
   level-is j low = at held.spots header.clock 0 j (all_numbers header.levels.items) (let m = marks-many in omega (arith, m, low)) ∙ ap (λ (n : ℕ). level_of (slot_cells held.spots) header.clock n (numbers_at header j)) (let e : 0 + j ≡ j = omega arith in e)
 
   -- the runs of a level
@@ -98,16 +78,6 @@ module _ (header : Header) (held : Held) where
 
   pub shadow-is : (j : ℕ) → j ≤ header.geometry.bottom → (level_at levels j).shadow ≡ run_cells held (shadow_of header j)
   shadow-is j low = ap (λ (l : FileLevel). l.shadow) (level-is j low)
-
-  -- its cursors
-  pub own-is : (j : ℕ) → j ≤ header.geometry.bottom → (level_at levels j).own ≡ (numbers_at header j).own
-  own-is j low = ap (λ (l : FileLevel). l.own) (level-is j low)
-
-  pub incoming-is : (j : ℕ) → j ≤ header.geometry.bottom → (level_at levels j).incoming ≡ (numbers_at header j).incoming
-  incoming-is j low = ap (λ (l : FileLevel). l.incoming) (level-is j low)
-
-  pub sampled-is : (j : ℕ) → j ≤ header.geometry.bottom → (level_at levels j).sampled ≡ (numbers_at header j).sampled
-  sampled-is j low = ap (λ (l : FileLevel). l.sampled) (level-is j low)
 
   -- what lies below it: the next level and what lies below that; nothing below the bottom
   pub below-next : (j : ℕ) → j < header.geometry.bottom → below_at levels j ≡ level_at levels (suc j) ∷ below_at levels (suc j)
@@ -123,19 +93,16 @@ module _ (header : Header) (held : Held) where
   pub visibles-next : (j : ℕ) → j < header.geometry.bottom → visibles (below_at levels j) ≡ run_cells held (visible_of header (suc j)) ∷ visibles (below_at levels (suc j))
   visibles-next j low = ap visibles (below-next j low) ∙ ap (λ (run : List LawCell). run ∷ visibles (below_at levels (suc j))) (visible-is (suc j) (omega (arith, low)))
 
-  pub visibles-none : (j : ℕ) → header.geometry.bottom ≤ j → visibles (below_at levels j) ≡ []
-  visibles-none j low = ap visibles (below-none j low)
-
   -- where the cells of the file are told, each of its runs is
   told-run : (j slot len : ℕ) → j ≤ header.geometry.bottom → slot < 2 → run_len file j slot ≡ len → AreCellsTold file → IsRunTold held (record { level = j; slot = slot; len = len })
   told-run j slot len low within is told i h =
       told j slot i (record { level_in = let m = marks-many in omega (arith, m, low); slot_in = within; within = subst (λ (n : ℕ). i < n) (sym is) h })
 
   pub visible-told : (j : ℕ) → j ≤ header.geometry.bottom → AreCellsTold file → IsRunTold held (visible_of header j)
-  visible-told j low = told-run j (visible_slot header.clock j) _ low (slot-in header.clock j) (here (visible_slot header.clock j) (slot-in header.clock j) _ _)
+  visible-told j low = told-run j (visible_slot header.clock j) _ low (slot-in header.clock j) (in-slots (visible_slot header.clock j) (slot-in header.clock j) _ _).0
 
   pub shadow-told : (j : ℕ) → j ≤ header.geometry.bottom → AreCellsTold file → IsRunTold held (shadow_of header j)
-  shadow-told j low = told-run j (1 - visible_slot header.clock j) _ low (other-in (visible_slot header.clock j)) (there (visible_slot header.clock j) (slot-in header.clock j) _ _)
+  shadow-told j low = told-run j (1 - visible_slot header.clock j) _ low (other-in (visible_slot header.clock j)) (in-slots (visible_slot header.clock j) (slot-in header.clock j) _ _).1
 
 -- ---- lists, level by level
 
@@ -150,22 +117,41 @@ module _ {X : Type 0} where
   pub length_push : (xs ys : List X) (x : X) (i : ℕ) → ys ≡ xs ++ x ∷ [] → length xs ≡ i → length ys ≡ i + 1
   length_push xs ys x i e h = let a = ap length e in let b = length-append xs (x ∷ []) in omega arith
 
+  -- a sum over the elements, and over one more
+  pub sum_append : (sum : List X → ℕ) (one : X → ℕ) → sum [] ≡ 0 → ((x : X) (xs : List X) → sum (x ∷ xs) ≡ one x + sum xs) → (xs : List X) (x : X) → sum (xs ++ x ∷ []) ≡ sum xs + one x
+  sum_append sum one none more [] x = let e = more x [] in omega (arith, e, none)
+  sum_append sum one none more (y ∷ xs) x = let e = more y (xs ++ x ∷ []) in let f = more y xs in let r = sum_append sum one none more xs x in omega (arith, e, f, r)
+
   -- a list of the same length, written over another
   pub refilled : (xs ys : List X) → length ys ≡ length xs → refill (length xs) xs ys ≡ ys
   refilled xs ys h = take-append-le (length xs) ys (drop (length ys) xs) (omega (arith, h)) ∙ ap (λ (n : ℕ). take n ys) (sym h) ∙ take-length ys
 
+module _ {X Y Z : Type 0} (R : X → Y → Type 0) (S : Y → Z → Type 0) where
+  -- what holds of no elements, and of one more on each list, holds of three lists side by side
+  pub by_each_then : (C : List X → List Y → List Z → Type 0) → C [] [] [] → ((x : X) (y : Y) (z : Z) (xs : List X) (ys : List Y) (zs : List Z) → R x y → S y z → C xs ys zs → C (x ∷ xs) (y ∷ ys) (z ∷ zs)) →
+      (xs : List X) (ys : List Y) (zs : List Z) → Each R xs ys → Each S ys zs → C xs ys zs
+  by_each_then C none more [] [] [] h k = none
+  by_each_then C none more (x ∷ xs) (y ∷ ys) (z ∷ zs) h k = more x y z xs ys zs h.0 k.0 (by_each_then C none more xs ys zs h.1 k.1)
+  by_each_then C none more _ [] (z ∷ zs) h k = absurd k
+  by_each_then C none more _ (y ∷ ys) [] h k = absurd k
+  by_each_then C none more _ _ _ h k = absurd h
+
 module _ {X Y : Type 0} (R : X → Y → Type 0) where
+  -- the same of two lists
+  pub by_each : (C : List X → List Y → Type 0) → C [] [] → ((x : X) (y : Y) (xs : List X) (ys : List Y) → R x y → C xs ys → C (x ∷ xs) (y ∷ ys)) → (xs : List X) (ys : List Y) → Each R xs ys → C xs ys
+  by_each C none more [] [] h = none
+  by_each C none more (x ∷ xs) (y ∷ ys) h = more x y xs ys h.0 (by_each C none more xs ys h.1)
+  by_each C none more _ _ h = absurd h
+
   pub each_length : (xs : List X) (ys : List Y) → Each R xs ys → length ys ≡ length xs
-  each_length [] [] h = refl
-  each_length [] (y ∷ ys) h = absurd h
-  each_length (x ∷ xs) [] h = absurd h
-  each_length (x ∷ xs) (y ∷ ys) h = ap suc (each_length xs ys h.1)
+  each_length = by_each (λ xs ys. length ys ≡ length xs) refl (λ x y xs ys r h. ap suc h)
+
+  -- the same of the second list alone
+  pub each_all : (P : Y → Type 0) → ((x : X) (y : Y) → R x y → P y) → (xs : List X) (ys : List Y) → Each R xs ys → AllByRecursion P ys
+  each_all P f = by_each (λ xs ys. AllByRecursion P ys) tt (λ x y xs ys r h. (f x y r, h))
 
   each_push : (xs : List X) (ys : List Y) (x : X) (y : Y) → Each R xs ys → R x y → Each R (xs ++ x ∷ []) (ys ++ y ∷ [])
-  each_push [] [] x y h r = (r, tt)
-  each_push [] (z ∷ ys) x y h r = absurd h
-  each_push (z ∷ xs) [] x y h r = absurd h
-  each_push (z ∷ xs) (w ∷ ys) x y h r = (h.0, each_push xs ys x y h.1 r)
+  each_push xs ys x y h r = by_each (λ us vs. Each R (us ++ x ∷ []) (vs ++ y ∷ [])) (r, tt) (λ u v us vs s k. (s, k)) xs ys h
 
   -- one more beside the first ones
   pub each_next : (xs : List X) (ys zs : List Y) (i : ℕ) (x : X) (y : Y) → i < length xs → x ≡ get_or xs i x → zs ≡ ys ++ y ∷ [] → Each R (take i xs) ys → R x y → Each R (take (i + 1) xs) zs
@@ -174,22 +160,20 @@ module _ {X Y : Type 0} (R : X → Y → Type 0) where
 
 -- ---- what is still to read
 
-unread_append : (xs : List LevelWalks) (x : LevelWalks) → all_unread (xs ++ x ∷ []) ≡ all_unread xs + level_unread x
-unread_append [] x = omega arith
-unread_append (y ∷ xs) x = let r = unread_append xs x in omega arith
-
-with_cells : (shadow : Option Run) (runs : List Run) → cells_in (with_shadow shadow runs) ≡ cells_in (with_shadow shadow []) + cells_in runs
-with_cells None runs = omega arith
-with_cells (Some run) runs = omega arith
+-- a shadow, or an empty run in its place
+pub shadow_cells : (shadow : Option Run) (visible : Run) (runs : List Run) → cells_in (with_shadow shadow runs) ≡ (shadow_or_none shadow visible).len + cells_in runs
+shadow_cells None visible runs = omega arith
+shadow_cells (Some run) visible runs = refl
 
 -- one level more that was begun
 pub begun_one : (levels : List LevelRuns) (begun now : List LevelWalks) (i : ℕ) (level : LevelRuns) (new : LevelWalks) (before later whole : ℕ) → now ≡ begun ++ new ∷ [] → i < length levels → level ≡ get_or levels i level →
     before + all_unread begun + cells_in (runs_of (drop i levels)) ≤ whole → later + level_unread new ≤ before + cells_in (runs_of (level ∷ [])) →
     later + all_unread now + cells_in (runs_of (drop (i + 1) levels)) ≤ whole
 begun_one levels begun now i level new before later whole e l is h k =
-    let a = ap all_unread e ∙ unread_append begun new in
+    let a = ap all_unread e ∙ sum_append all_unread level_unread refl (λ y ys. refl) begun new in
     let b : cells_in (runs_of (drop i levels)) ≡ cells_in (runs_of (level ∷ drop (i + 1) levels)) = ap (λ (ls : List LevelRuns). cells_in (runs_of ls)) (left_next levels i level l is) in
-    let d = with_cells level.shadow (runs_of (drop (i + 1) levels)) in
+    let d = shadow_cells level.shadow level.visible (runs_of (drop (i + 1) levels)) in
+    let f = shadow_cells level.shadow level.visible [] in
     omega arith
 
 -- ---- a shadow, or an empty run in its place
@@ -197,10 +181,6 @@ begun_one levels begun now i level new before later whole e l is h k =
 pub shadow_has : (held : Held) (shadow : Option Run) (visible : Run) → HasRun held visible → IfSome shadow (HasRun held) → HasRun held (shadow_or_none shadow visible)
 shadow_has held None visible v s = record { level_in = v.level_in; slot_in = v.slot_in; within = omega arith }
 shadow_has held (Some run) visible v s = s
-
-pub shadow_cells : (shadow : Option Run) (visible : Run) (runs : List Run) → cells_in (with_shadow shadow runs) ≡ (shadow_or_none shadow visible).len + cells_in runs
-shadow_cells None visible runs = omega arith
-shadow_cells (Some run) visible runs = refl
 
 pub shadow_bad : (held : Held) (number : ℕ) (shadow : Option Run) (visible : Run) → HasBadRun held number (shadow_or_none shadow visible ∷ []) → HasBadRun held number (visible ∷ with_shadow shadow [])
 shadow_bad held number None visible (inl b) = let w = b.within in absurd (omega arith)
@@ -235,7 +215,7 @@ module _ (held : Held) (number : ℕ) where
   with_bad (Some run) few runs f (inl b) = inl b
   with_bad (Some run) few runs f (inr b) = inr (f b)
 
-  skipped_bad : (shadow : Option Run) (runs : List Run) → HasBadRun held number runs → HasBadRun held number (with_shadow shadow runs)
+  pub skipped_bad : (shadow : Option Run) (runs : List Run) → HasBadRun held number runs → HasBadRun held number (with_shadow shadow runs)
   skipped_bad None runs b = b
   skipped_bad (Some run) runs b = inr b
 

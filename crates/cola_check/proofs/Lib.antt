@@ -1,6 +1,7 @@
 mod After
 mod BadRuns
 mod Carrying
+mod Common
 mod Cuts
 mod FileBlocks
 mod Fronts

@@ -1,64 +1,28 @@
 -- A walk over the runs of several levels by least keys, and what it counts.
-use Rattle.std.proofs.Common.{◌≡◌, ℕ, zero, suc, ◌+◌, ◌<◌, ◌≤◌, cond, List, [], ◌∷◌, length, take, drop, get_or, refl, sym, ap, subst, ◌∙◌, arith, ◌↔◌, ◌^◌, false, map, replicate, Option, None, Some}
-use Rattle.std.proofs.Common.{◌⊎◌, inl, inr, ◌*◌, Bool, true, IfSome, IsTrue}
-use Rattle.std.specs.List.{AllByRecursion, refill}
+use Rattle.std.proofs.Common.{◌≡◌, ℕ, zero, suc, ◌+◌, ◌<◌, ◌≤◌, cond, List, [], ◌∷◌, length, take, drop, get_or, take-take, get_or-take, refl, sym, ap, subst, ◌∙◌, arith, ◌↔◌, ◌^◌, false, map, replicate, Option, None, Some, inl}
+use Rattle.std.proofs.Common.{inr, ◌*◌, Bool, true, IfSome, IsTrue}
+use Rattle.cola_check.proofs.Common.{AllByRecursion, refill, take-set, drop-set, drop_all, get_or_default, length-map, length-replicate, option_or, transport, IsRising, seen, holds, answer, AtHead, pass_key, pass_keys, HeadsPast}
+use Rattle.cola_check.proofs.Common.{by_bool, all_change, Value, Tombstone, LawCell, Stamped, Held, key_cmp, Run, slot_size, HasRun, live_pairs, LevelWalks, LiveCount, Said, said_or, live_one, visible_said, shadow_said, no_count}
+use Rattle.cola_check.proofs.Common.{HasRoom, added, counted, said_of, IsWithin, Found, Nothing, Gone, Live, as_seen, rest, least_from, Each, HasLevel, shadow_or_none, shadow_run, with_shadow, runs_of, cells_in, AreRunsInOrder}
+use Rattle.cola_check.proofs.Common.{cells_of, walks_in, runs_in, LevelFits, IsLevelReady, all_ahead, BeginsLevel, Hears, PassesLevel, LevelCells, visible_runs, shadow_runs, AreLiveCounts, AreStamped, LevelRuns, Walk, HasBadRun}
+use Rattle.cola_check.proofs.Common.{HasBadIn, IsInOrder}
 use Rattle.std.proofs.Math.ListN.{set}
-use Rattle.std.proofs.lemmas.List.{take-set, drop-set, drop_all, get_or_default, length-map, length-replicate}
-use Rattle.std.specs.Option.{option_or}
-use Rattle.std.specs.List.Sorted.{IsStrictlySortedBy}
-use Rattle.std.proofs.Math.Path.{transport}
-use Rattle.cola_runs.specs.Cells.{IsRising}
-use Rattle.cola_runs.specs.Seen.{seen, holds, answer}
-use Rattle.cola_runs.specs.Cells as laws
 use Rattle.cola_pairs.specs.Live.{with_answer, below_end}
-use Rattle.cola_pairs.specs.Walk.{AtHead, pass_key, pass_keys, HeadsPast}
-use Rattle.cola_pairs.proofs.Order.{by_bool}
 use Rattle.cola_pairs.proofs.LivePairs.{all_rising_onward}
 use Rattle.cola_pairs.proofs.Onward.{live_step, live_ends, below_closes}
-use Rattle.cola_cell.specs.declared.cell.Item.TheVariants.{Value, Tombstone}
-use Rattle.cola_cell.specs.Held.{LawCell, Stamped, Held}
-use Rattle.cola_cell.specs.Order.{key_cmp}
-use Rattle.cola_cell.specs.declared.cell.Run.{Run}
-use Rattle.cola_cell.specs.State.{State}
-use Rattle.cola_cell.specs.Places.{slot_size}
 use Rattle.cola_cell.proofs.PlaceNumbers.{slot_size-mono}
-use Rattle.cola_look.specs.Runs.{HasRun}
-use Rattle.cola_verdict.specs.Tests.{live_pairs}
-use Rattle.cola_check.specs.declared.level_walks.LevelWalks.{LevelWalks}
-use Rattle.cola_check.specs.declared.tally.LiveCount.{LiveCount}
-use Rattle.cola_check.specs.declared.tally.Said.{Said}
-use Rattle.cola_check.specs.Tally.{said_or, live_one, visible_said, shadow_said, no_count, HasRoom, added, counted, said_of, IsWithin}
-use Rattle.cola_check.specs.declared.walk.Found.{Found}
-use Rattle.cola_check.specs.declared.tally.Said.TheVariants.{Nothing, Gone, Live}
-use Rattle.cola_check.specs.Walks.{as_seen, rest, least_from}
-use Rattle.cola_check.specs.LevelWalks.{Each, HasLevel, shadow_or_none, shadow_run, with_shadow, runs_of, cells_in, AreRunsInOrder, cells_of, walks_in, runs_in, LevelFits, IsLevelReady, all_unread}
-use Rattle.cola_check.specs.LevelWalks.{all_ahead, BeginsLevel, Hears, PassesLevel, all_left, AllReadOn}
-use Rattle.cola_check.specs.Chains.{LevelCells, visible_runs, shadow_runs, lives, AreLiveCounts, AreStamped}
-use Rattle.cola_check.specs.declared.level_walks.LevelRuns.{LevelRuns}
-use Rattle.cola_check.specs.declared.walk.Walk.{Walk}
-use Rattle.cola_check.specs.Reading.{HasBadRun, HasBadIn}
-use Rattle.cola_check.specs.Beside.{IsInOrder}
-use Rattle.cola_check.specs.Leasts.{FirstStay}
-use Rattle.cola_check.specs.declared.walk.Found.TheVariants as found
-use Rattle.cola_check.proofs.Levels.{left_next, each_length, refilled}
-use Rattle.cola_check.proofs.LeastKeys.{key_total, keys_alike, HeadFrom, AnyHas, least_is, least_none}
+use Rattle.cola_check.specs.Chains.{lives}
+use Rattle.cola_check.proofs.Levels.{left_next, by_each, by_each_then, each_all, each_length, refilled, shadow_cells, skipped_bad, none-sorted}
+use Rattle.cola_check.proofs.LeastKeys.{key_total, keys_alike, HeadFrom, AnyHas, some_head, least_is, least_none}
 use Rattle.cola_check.proofs.Fronts.{ahead_stays, ahead_falls}
 use Rattle.cola_check.proofs.Carrying.{BeginsFrom, begins_from, IsOn, on_first, on_next, told_of, found_of_key, rest_begins, nothing_left}
+use Rattle.cola_runs.specs.Cells as laws
+use Rattle.cola_check.specs.declared.walk.Found.TheVariants as found
 
 -- ---- counts of levels, from the last one up
 
 same_count : (count : LiveCount) (v s : ℕ) → count.visible ≡ v → count.shadow ≡ s → count ≡ record { visible = v; shadow = s }
 same_count count v s e f = ap (λ (n : ℕ). record { visible = n; shadow = count.shadow }) e ∙ ap (λ (n : ℕ). record { visible = v; shadow = n }) f
-
-firsts : (xs ys : List LiveCount) (i : ℕ) → take (suc i) xs ≡ take (suc i) ys → i < length xs → i < length ys → (take i xs ≡ take i ys) × (get_or xs i no_count ≡ get_or ys i no_count)
-firsts [] ys i e l m = absurd (omega (arith, l))
-firsts (x ∷ xs) [] i e l m = absurd (omega (arith, m))
-firsts (x ∷ xs) (y ∷ ys) zero e l m = (refl, cc)
-firsts (x ∷ xs) (y ∷ ys) (suc i) e l m =
-    let a : x ≡ y = cc in
-    let b : take (suc i) xs ≡ take (suc i) ys = cc in
-    let r = firsts xs ys i b (omega (arith, l)) (omega (arith, m)) in
-    (ap (λ z. z ∷ take i xs) a ∙ ap (λ zs. y ∷ zs) r.0, r.1)
 
 room_at : (counts : List LiveCount) (i : ℕ) → i < length counts → AllByRecursion HasRoom counts → HasRoom (get_or counts i no_count)
 room_at [] i l h = absurd (omega (arith, l))
@@ -71,7 +35,11 @@ none_counted counts levels n l = let e = drop_all n counts l in e ∙ sym (ap (�
 
 module _ (counts olds : List LiveCount) (levels : List LevelWalks) (n i : ℕ) (many : n ≡ suc i) (first : take n counts ≡ take n olds) (in_counts : i < length counts) (in_olds : i < length olds) where
   both : (take i counts ≡ take i olds) × (get_or counts i no_count ≡ get_or olds i no_count)
-  both = firsts counts olds i (ap (λ (m : ℕ). take m counts) (sym many) ∙ first ∙ ap (λ (m : ℕ). take m olds) many) in_counts in_olds
+  both =
+      let less : i < n = omega (arith, many) in (
+        sym (take-take i n counts (omega (arith, less))) ∙ ap (take i) first ∙ take-take i n olds (omega (arith, less)),
+        sym (get_or-take n counts i no_count less) ∙ ap (λ (cs : List LiveCount). get_or cs i no_count) first ∙ get_or-take n olds i no_count less,
+      )
 
   -- the next count up is as it was, and has room
   pub next_has_room : AllByRecursion HasRoom olds → HasRoom (get_or counts i no_count)
@@ -128,27 +96,20 @@ OfBoth P level = P level.visible × P level.shadow
 abbrev pub passed_cells : List ℕ → LevelCells → LevelCells
 passed_cells k level = record { visible = pass_key key_cmp k level.visible; shadow = pass_key key_cmp k level.shadow; odd = level.odd }
 
-module _ (P : List LawCell → Type 0) where
-  over_visible : (levels : List LevelCells) → AllByRecursion (OfBoth P) levels → AllByRecursion P (visible_runs levels)
-  over_visible [] h = tt
-  over_visible (level ∷ levels) h = (h.0.0, over_visible levels h.1)
+-- it holds of each of the visible runs, and of the shadow and what lies below it
+over_both : (P : List LawCell → Type 0) (levels : List LevelCells) → AllByRecursion (OfBoth P) levels → AllByRecursion P (visible_runs levels) × AllByRecursion P (shadow_runs levels)
+over_both P [] h = (tt, tt)
+over_both P (level ∷ levels) h =
+    let r = over_both P levels h.1 in
+    ((h.0.0, r.0), (h.0.1, by_bool (λ b. AllByRecursion P (cond b (shadow_runs levels) (visible_runs levels))) r.1 r.0 level.odd))
 
-  over_shadow : (levels : List LevelCells) → AllByRecursion (OfBoth P) levels → AllByRecursion P (shadow_runs levels)
-  over_shadow [] h = tt
-  over_shadow (level ∷ levels) h =
-      (h.0.1, by_bool (λ b. AllByRecursion P (cond b (shadow_runs levels) (visible_runs levels))) (over_shadow levels h.1) (over_visible levels h.1) level.odd)
-
-module _ (k : List ℕ) where
-  visible_passed : (levels : List LevelCells) → visible_runs (map (passed_cells k) levels) ≡ pass_keys key_cmp k (visible_runs levels)
-  visible_passed [] = refl
-  visible_passed (level ∷ levels) = ap (λ runs. pass_key key_cmp k level.visible ∷ runs) (visible_passed levels)
-
-  shadow_passed : (levels : List LevelCells) → shadow_runs (map (passed_cells k) levels) ≡ pass_keys key_cmp k (shadow_runs levels)
-  shadow_passed [] = refl
-  shadow_passed (level ∷ levels) =
-      ap (λ runs. pass_key key_cmp k level.shadow ∷ runs)
-      (by_bool (λ b. cond b (shadow_runs (map (passed_cells k) levels)) (visible_runs (map (passed_cells k) levels)) ≡ pass_keys key_cmp k (cond b (shadow_runs levels) (visible_runs levels)))
-      (shadow_passed levels) (visible_passed levels) level.odd)
+-- passing a key goes through them
+both_passed : (k : List ℕ) (levels : List LevelCells) → (visible_runs (map (passed_cells k) levels) ≡ pass_keys key_cmp k (visible_runs levels)) × (shadow_runs (map (passed_cells k) levels) ≡ pass_keys key_cmp k (shadow_runs levels))
+both_passed k [] = (refl, refl)
+both_passed k (level ∷ levels) =
+    let r = both_passed k levels in
+    let behind = by_bool (λ b. cond b (shadow_runs (map (passed_cells k) levels)) (visible_runs (map (passed_cells k) levels)) ≡ pass_keys key_cmp k (cond b (shadow_runs levels) (visible_runs levels))) r.1 r.0 level.odd in
+    (ap (λ runs. pass_key key_cmp k level.visible ∷ runs) r.0, ap (λ runs. pass_key key_cmp k level.shadow ∷ runs) behind)
 
 -- ---- what the runs say of the key
 
@@ -159,16 +120,13 @@ as_said (Some (laws.Value v)) = Live v.stamp
 as_said (Some laws.Tombstone) = Gone
 
 said_joined : (a b : Option (laws.Item Stamped)) → said_or (as_said a) (as_said b) ≡ as_said (option_or a b)
-said_joined None b = refl
 said_joined (Some (laws.Value v)) b = refl
-said_joined (Some laws.Tombstone) b = refl
+said_joined _ b = refl
 
 pub said_found : (f : Found) → said_of f ≡ as_said (holds (as_seen f))
-said_found found.Nothing = refl
 said_found (found.Old (Value value stamp)) = refl
-said_found (found.Old Tombstone) = refl
 said_found (found.Young (Value value stamp)) = refl
-said_found (found.Young Tombstone) = refl
+said_found _ = refl
 
 -- the walks of a level have heard what its runs say of the key
 pub record IsSaid (k : List ℕ) (level : LevelCells) (walks : LevelWalks) : Type 0 where
@@ -182,21 +140,18 @@ module _ (k : List ℕ) where
   said_of_run heard run e said runs h =
       ap (λ x. said_or x said) e ∙ ap (said_or (as_said (holds (seen key_cmp k run)))) h ∙ said_joined (holds (seen key_cmp k run)) (answer key_cmp k runs)
 
-  visible_answer : (levels : List LevelCells) (walks : List LevelWalks) → Each (IsSaid k) levels walks → visible_said walks ≡ as_said (answer key_cmp k (visible_runs levels))
-  visible_answer [] [] h = refl
-  visible_answer [] (w ∷ walks) h = absurd h
-  visible_answer (level ∷ levels) [] h = absurd h
-  visible_answer (level ∷ levels) (w ∷ walks) h = said_of_run w.visible.said level.visible h.0.visible (visible_said walks) (visible_runs levels) (visible_answer levels walks h.1)
-
-  shadow_answer : (levels : List LevelCells) (walks : List LevelWalks) → Each (IsSaid k) levels walks → shadow_said walks ≡ as_said (answer key_cmp k (shadow_runs levels))
-  shadow_answer [] [] h = refl
-  shadow_answer [] (w ∷ walks) h = absurd h
-  shadow_answer (level ∷ levels) [] h = absurd h
-  shadow_answer (level ∷ levels) (w ∷ walks) h =
-      said_of_run w.shadow.said level.shadow h.0.shadow (cond w.odd (shadow_said walks) (visible_said walks)) (cond level.odd (shadow_runs levels) (visible_runs levels))
-      (ap (λ b. cond b (shadow_said walks) (visible_said walks)) h.0.odd_is
-      ∙ by_bool (λ b. cond b (shadow_said walks) (visible_said walks) ≡ as_said (answer key_cmp k (cond b (shadow_runs levels) (visible_runs levels))))
-      (shadow_answer levels walks h.1) (visible_answer levels walks h.1) level.odd)
+  -- both lists have heard what their runs answer
+  both_answer : (levels : List LevelCells) (walks : List LevelWalks) → Each (IsSaid k) levels walks →
+      (visible_said walks ≡ as_said (answer key_cmp k (visible_runs levels))) × (shadow_said walks ≡ as_said (answer key_cmp k (shadow_runs levels)))
+  both_answer [] [] h = (refl, refl)
+  both_answer (level ∷ levels) (w ∷ walks) h =
+      let r = both_answer levels walks h.1 in
+      let behind = by_bool (λ b. cond b (shadow_said walks) (visible_said walks) ≡ as_said (answer key_cmp k (cond b (shadow_runs levels) (visible_runs levels)))) r.1 r.0 level.odd in (
+        said_of_run w.visible.said level.visible h.0.visible (visible_said walks) (visible_runs levels) r.0,
+        said_of_run w.shadow.said level.shadow h.0.shadow (cond w.odd (shadow_said walks) (visible_said walks)) (cond level.odd (shadow_runs levels) (visible_runs levels))
+            (ap (λ b. cond b (shadow_said walks) (visible_said walks)) h.0.odd_is ∙ behind),
+      )
+  both_answer _ _ h = absurd h
 
 -- ---- live pairs
 
@@ -205,27 +160,17 @@ pairs_step : (k : List ℕ) (runs : List (List LawCell)) → AllByRecursion (IsR
 pairs_step k runs h p = live_step key_total keys_alike (below_end key_cmp None) k runs (all_rising_onward key_total runs h) p refl
 
 one_more : (k : List ℕ) (a : Option (laws.Item Stamped)) (pairs : List (List ℕ × Stamped)) → length (with_answer k a pairs) ≡ live_one (as_said a) + length pairs
-one_more k None pairs = omega arith
 one_more k (Some (laws.Value v)) pairs = omega arith
-one_more k (Some laws.Tombstone) pairs = omega arith
+one_more k _ pairs = omega arith
 
 stamped_more : (last : ℕ) (k : List ℕ) (a : Option (laws.Item Stamped)) (pairs : List (List ℕ × Stamped)) → AreStamped last (with_answer k a pairs) ↔ (IsWithin last (as_said a) × AreStamped last pairs)
-stamped_more last k None pairs = ((λ h. (tt, h)), (λ h. h.1))
 stamped_more last k (Some (laws.Value v)) pairs = ((λ h. h), (λ h. h))
-stamped_more last k (Some laws.Tombstone) pairs = ((λ h. (tt, h)), (λ h. h.1))
-
-nothing_rises : IsRising {V = Stamped} key_cmp []
-unfolding IsStrictlySortedBy
-nothing_rises = tt
+stamped_more last k _ pairs = ((λ h. (tt, h)), (λ h. h.1))
 
 -- runs of no cells have no live key
 pairs_end : (runs : List (List LawCell)) → AllByRecursion (λ run. run ≡ []) runs → live_pairs runs ≡ []
-pairs_end runs h = live_ends key_total (below_end key_cmp None) (below_closes key_total None) runs (all_rising_onward key_total runs (rising runs h)) (past runs h)
+pairs_end runs h = live_ends key_total (below_end key_cmp None) (below_closes key_total None) runs (all_rising_onward key_total runs (all_change (λ run e. subst (IsRising key_cmp) (sym e) (none-sorted _)) runs h)) (past runs h)
   where
-    rising : (runs : List (List LawCell)) → AllByRecursion (λ run. run ≡ []) runs → AllByRecursion (IsRising key_cmp) runs
-    rising [] h = tt
-    rising (run ∷ runs) h = (subst (IsRising key_cmp) (sym h.0) nothing_rises, rising runs h.1)
-
     past : (runs : List (List LawCell)) → AllByRecursion (λ run. run ≡ []) runs → HeadsPast key_cmp None runs
     past [] h = tt
     past (run ∷ runs) h = (subst (AtHead (λ q. below_end key_cmp None q ≡ false)) (sym h.0) tt, past runs h.1)
@@ -240,11 +185,8 @@ pub record IsCounting (whole left : List LevelCells) (count : LiveCount) : Type 
 -- the same of each level
 abbrev pub AreCounting : List LevelCells → List LevelCells → List LiveCount → Type 0
 AreCounting [] [] [] = Unit {0}
-AreCounting [] [] (c ∷ counts) = ⊥
-AreCounting [] (l ∷ left) counts = ⊥
-AreCounting (w ∷ whole) [] counts = ⊥
-AreCounting (w ∷ whole) (l ∷ left) [] = ⊥
 AreCounting (w ∷ whole) (l ∷ left) (c ∷ counts) = IsCounting (w ∷ whole) (l ∷ left) c × AreCounting whole left counts
+AreCounting _ _ _ = ⊥
 
 pub counting_none : (whole : List LevelCells) → AreCounting whole whole (replicate (length whole) no_count)
 counting_none [] = tt
@@ -259,51 +201,46 @@ module _ (k : List ℕ) where
   module _ (left : List LevelCells) (walks : List LevelWalks) (said : Each (IsSaid k) left walks) (rising : AllByRecursion (OfBoth (IsRising key_cmp)) left) (begins : AllByRecursion (OfBoth (BeginsFrom k)) left) where
     visible_step : lives (visible_runs left) ≡ live_one (visible_said walks) + lives (visible_runs (map (passed_cells k) left))
     visible_step =
-        lives_step (visible_runs left) (visible_said walks) (over_visible (IsRising key_cmp) left rising) (over_visible (BeginsFrom k) left begins) (visible_answer k left walks said)
-        ∙ ap (λ runs. live_one (visible_said walks) + lives runs) (sym (visible_passed k left))
+        lives_step (visible_runs left) (visible_said walks) (over_both (IsRising key_cmp) left rising).0 (over_both (BeginsFrom k) left begins).0 (both_answer k left walks said).0
+        ∙ ap (λ runs. live_one (visible_said walks) + lives runs) (sym (both_passed k left).0)
 
     shadow_step : lives (shadow_runs left) ≡ live_one (shadow_said walks) + lives (shadow_runs (map (passed_cells k) left))
     shadow_step =
-        lives_step (shadow_runs left) (shadow_said walks) (over_shadow (IsRising key_cmp) left rising) (over_shadow (BeginsFrom k) left begins) (shadow_answer k left walks said)
-        ∙ ap (λ runs. live_one (shadow_said walks) + lives runs) (sym (shadow_passed k left))
+        lives_step (shadow_runs left) (shadow_said walks) (over_both (IsRising key_cmp) left rising).1 (over_both (BeginsFrom k) left begins).1 (both_answer k left walks said).1
+        ∙ ap (λ runs. live_one (shadow_said walks) + lives runs) (sym (both_passed k left).1)
 
     -- the stamps of what is left are that of the key and those behind it
     pub stamps_step : (last : ℕ) → AreStamped last (live_pairs (visible_runs left)) ↔ (IsWithin last (visible_said walks) × AreStamped last (live_pairs (visible_runs (map (passed_cells k) left))))
     stamps_step last =
-        let pairs = sym (pairs_step k (visible_runs left) (over_visible (IsRising key_cmp) left rising) (over_visible (BeginsFrom k) left begins)) in
-        let one = sym (visible_answer k left walks said) in
-        let runs = sym (visible_passed k left) in
+        let pairs = sym (pairs_step k (visible_runs left) (over_both (IsRising key_cmp) left rising).0 (over_both (BeginsFrom k) left begins).0) in
+        let one = sym (both_answer k left walks said).0 in
+        let runs = sym (both_passed k left).0 in
         transport (λ i. AreStamped last (pairs i) ↔ (IsWithin last (one i) × AreStamped last (live_pairs (runs i))))
         (stamped_more last k (answer key_cmp k (visible_runs left)) (live_pairs (pass_keys key_cmp k (visible_runs left))))
 
   pub counting_step : (whole left : List LevelCells) (counts : List LiveCount) (walks : List LevelWalks) → Each (IsSaid k) left walks → AllByRecursion (OfBoth (IsRising key_cmp)) left → AllByRecursion (OfBoth (BeginsFrom k)) left →
       AreCounting whole left counts → AreCounting whole (map (passed_cells k) left) (counted counts walks)
   counting_step [] [] [] walks s h p c = tt
-  counting_step [] [] (n ∷ counts) walks s h p c = absurd c
-  counting_step [] (l ∷ left) counts walks s h p c = absurd c
-  counting_step (w ∷ whole) [] counts walks s h p c = absurd c
-  counting_step (w ∷ whole) (l ∷ left) [] walks s h p c = absurd c
   counting_step (w ∷ whole) (l ∷ left) (n ∷ counts) [] s h p c = absurd s
   counting_step (w ∷ whole) (l ∷ left) (n ∷ counts) (x ∷ walks) s h p c =
       let a = visible_step (l ∷ left) (x ∷ walks) s h p in
       let b = shadow_step (l ∷ left) (x ∷ walks) s h p in
       (record { visible = omega (arith, c.0.visible); shadow = omega (arith, c.0.shadow) }, counting_step whole left counts walks s.1 h.1 p.1 c.1)
+  counting_step _ _ _ walks s h p c = absurd c
 
 -- where nothing is left, all is counted
 pub counting_end : (whole left : List LevelCells) (counts : List LiveCount) → AllByRecursion (OfBoth (λ run. run ≡ [])) left → AreCounting whole left counts → AreLiveCounts whole counts
 counting_end [] [] [] h c = tt
-counting_end [] [] (n ∷ counts) h c = absurd c
-counting_end [] (l ∷ left) counts h c = absurd c
-counting_end (w ∷ whole) [] counts h c = absurd c
-counting_end (w ∷ whole) (l ∷ left) [] h c = absurd c
 counting_end (w ∷ whole) (l ∷ left) (n ∷ counts) h c =
-    let a : lives (visible_runs (l ∷ left)) ≡ 0 = ap length (pairs_end (visible_runs (l ∷ left)) (over_visible (λ run. run ≡ []) (l ∷ left) h)) in
-    let b : lives (shadow_runs (l ∷ left)) ≡ 0 = ap length (pairs_end (shadow_runs (l ∷ left)) (over_shadow (λ run. run ≡ []) (l ∷ left) h)) in
+    let none = over_both (λ run. run ≡ []) (l ∷ left) h in
+    let a : lives (visible_runs (l ∷ left)) ≡ 0 = ap length (pairs_end (visible_runs (l ∷ left)) none.0) in
+    let b : lives (shadow_runs (l ∷ left)) ≡ 0 = ap length (pairs_end (shadow_runs (l ∷ left)) none.1) in
     (record { visible = omega (arith, c.0.visible); shadow = omega (arith, c.0.shadow) }, counting_end whole left counts h.1 c.1)
+counting_end _ _ _ h c = absurd c
 
 -- and no stamp is left
 pub stamps_end : (last : ℕ) (left : List LevelCells) → AllByRecursion (OfBoth (λ run. run ≡ [])) left → AreStamped last (live_pairs (visible_runs left))
-stamps_end last left h = subst (AreStamped last) (sym (pairs_end (visible_runs left) (over_visible (λ run. run ≡ []) left h))) tt
+stamps_end last left h = subst (AreStamped last) (sym (pairs_end (visible_runs left) (over_both (λ run. run ≡ []) left h).0)) tt
 
 -- ---- how far the counts may rise
 
@@ -318,30 +255,22 @@ bounded_none more most (suc n) h = (record { visible = omega arith; shadow = ome
 
 at_most_one : (said : Said) → live_one said ≤ 1
 at_most_one Nothing = omega arith
-at_most_one Gone = omega arith
-at_most_one (Live stamp) = omega arith
+at_most_one _ = omega arith
 
 pub bounded_step : (more less most : ℕ) (counts : List LiveCount) (walks : List LevelWalks) → less < more → AllByRecursion (IsBounded more most) counts → AllByRecursion (IsBounded less most) (counted counts walks)
 bounded_step more less most [] walks l h = tt
-bounded_step more less most (n ∷ counts) [] l h = weaker (n ∷ counts) h
-  where
-    weaker : (counts : List LiveCount) → AllByRecursion (IsBounded more most) counts → AllByRecursion (IsBounded less most) counts
-    weaker [] h = tt
-    weaker (n ∷ counts) h = let a = h.0.visible in let b = h.0.shadow in (record { visible = omega arith; shadow = omega arith }, weaker counts h.1)
+bounded_step more less most (n ∷ counts) [] l h = all_change (λ c b. record { visible = omega (arith, l, b.visible); shadow = omega (arith, l, b.shadow) }) (n ∷ counts) h
 bounded_step more less most (n ∷ counts) (x ∷ walks) l h =
     let d = at_most_one (visible_said (x ∷ walks)) in
     let e = at_most_one (shadow_said (x ∷ walks)) in
     (record { visible = omega (arith, h.0.visible); shadow = omega (arith, h.0.shadow) }, bounded_step more less most counts walks l h.1)
 
 pub has_rooms : (more most : ℕ) (counts : List LiveCount) → most + 1 < 2 ^ 64 → AllByRecursion (IsBounded more most) counts → AllByRecursion HasRoom counts
-has_rooms more most [] l h = tt
-has_rooms more most (n ∷ counts) l h =
-    (record { visible = omega (arith, h.0.visible, l); shadow = omega (arith, h.0.shadow, l) }, has_rooms more most counts l h.1)
+has_rooms more most counts l = all_change (λ n b. record { visible = omega (arith, b.visible, l); shadow = omega (arith, b.shadow, l) }) counts
 
 pub same_many : (counts : List LiveCount) (walks : List LevelWalks) → length (counted counts walks) ≡ length counts
-same_many [] walks = refl
-same_many (n ∷ counts) [] = refl
 same_many (n ∷ counts) (x ∷ walks) = ap suc (same_many counts walks)
+same_many _ _ = refl
 
 -- ---- the walk
 
@@ -368,10 +297,9 @@ rest_of held walks = record { visible = rest held walks.visible.walk; shadow = r
 
 module _ (held : Held) where
   empty_in_order : (run : Run) → run.len ≡ 0 → IsInOrder held run
-  unfolding IsStrictlySortedBy
   empty_in_order run e = record {
     told = λ i l. absurd (omega arith);
-    rising = subst (λ n. IsRising key_cmp (Rattle.cola_cell.specs.ToldCells.cells (held.spots run.level run.slot) 0 n)) (sym e) tt;
+    rising = subst (λ n. IsRising key_cmp (Rattle.cola_cell.specs.ToldCells.cells (held.spots run.level run.slot) 0 n)) (sym e) (none-sorted _);
   }
 
   shadow_in_order : (shadow : Option Run) (visible : Run) (runs : List Run) → AllByRecursion (IsInOrder held) (with_shadow shadow runs) → IsInOrder held (shadow_or_none shadow visible) × AllByRecursion (IsInOrder held) runs
@@ -385,74 +313,50 @@ module _ (held : Held) where
   -- ---- where the walks begin
 
   pub on_begin : (levels : List LevelRuns) (walks : List LevelWalks) → Each (BeginsLevel held) levels walks → Each (LevelOn held) levels walks
-  on_begin [] [] h = tt
-  on_begin [] (w ∷ walks) h = absurd h
-  on_begin (l ∷ levels) [] h = absurd h
-  on_begin (l ∷ levels) (w ∷ walks) h = (
+  on_begin = by_each (BeginsLevel held) (Each (LevelOn held)) tt (λ l w levels walks b h. (
     record {
-      visible = on_first h.0.visible.run_is h.0.visible.at_is h.0.visible.fits h.0.visible.ready;
-      shadow = on_first h.0.shadow.run_is h.0.shadow.at_is h.0.shadow.fits h.0.shadow.ready;
-      odd_is = h.0.odd_is;
+      visible = on_first b.visible.run_is b.visible.at_is b.visible.fits b.visible.ready;
+      shadow = on_first b.shadow.run_is b.shadow.at_is b.shadow.fits b.shadow.ready;
+      odd_is = b.odd_is;
     },
-    on_begin levels walks h.1,
-  )
+    h,
+  ))
 
   rests_begin : (levels : List LevelRuns) (walks : List LevelWalks) → Each (BeginsLevel held) levels walks → map (rest_of held) walks ≡ map (cells_of held) levels
-  rests_begin [] [] h = refl
-  rests_begin [] (w ∷ walks) h = absurd h
-  rests_begin (l ∷ levels) [] h = absurd h
-  rests_begin (l ∷ levels) (w ∷ walks) h =
-      let a = rest_begins held l.visible w.visible.walk h.0.visible.run_is h.0.visible.at_is in
-      let b = rest_begins held (shadow_run l) w.shadow.walk h.0.shadow.run_is h.0.shadow.at_is in
-      let e = h.0.odd_is in
-      let f = rests_begin levels walks h.1 in
-      cc
+  rests_begin = by_each (BeginsLevel held) (λ levels walks. map (rest_of held) walks ≡ map (cells_of held) levels) refl (λ l w levels walks h f.
+      let a = rest_begins held l.visible w.visible.walk h.visible.run_is h.visible.at_is in
+      let b = rest_begins held (shadow_run l) w.shadow.walk h.shadow.run_is h.shadow.at_is in
+      let e = h.odd_is in
+      cc)
 
   -- ---- what a step keeps
 
   module _ (k : List ℕ) where
     pub on_pass : (levels : List LevelRuns) (olds news : List LevelWalks) → Each (LevelOn held) levels olds → Each (PassesLevel held k) olds news → Each (LevelOn held) levels news
-    on_pass [] [] [] o p = tt
-    on_pass [] [] (n ∷ news) o p = absurd p
-    on_pass [] (x ∷ olds) news o p = absurd o
-    on_pass (l ∷ levels) [] news o p = absurd o
-    on_pass (l ∷ levels) (x ∷ olds) [] o p = absurd p
-    on_pass (l ∷ levels) (x ∷ olds) (n ∷ news) o p = (
-      record { visible = on_next o.0.visible p.0.visible.passes; shadow = on_next o.0.shadow p.0.shadow.passes; odd_is = p.0.odd_is ∙ o.0.odd_is },
-      on_pass levels olds news o.1 p.1,
-    )
+    on_pass = by_each_then (LevelOn held) (PassesLevel held k) (λ levels olds news. Each (LevelOn held) levels news) tt (λ l x n levels olds news o p r. (
+      record { visible = on_next o.visible p.visible.passes; shadow = on_next o.shadow p.shadow.passes; odd_is = p.odd_is ∙ o.odd_is },
+      r,
+    ))
 
     rests_pass : (levels : List LevelRuns) (olds news : List LevelWalks) → AllByRecursion (BothInOrder held) levels → Each (LevelOn held) levels olds → Each (PassesLevel held k) olds news →
         map (rest_of held) news ≡ map (passed_cells k) (map (rest_of held) olds)
-    rests_pass [] [] [] h o p = refl
-    rests_pass [] [] (n ∷ news) h o p = absurd p
-    rests_pass [] (x ∷ olds) news h o p = absurd o
-    rests_pass (l ∷ levels) [] news h o p = absurd o
-    rests_pass (l ∷ levels) (x ∷ olds) [] h o p = absurd p
-    rests_pass (l ∷ levels) (x ∷ olds) (n ∷ news) h o p =
-        let a = p.0.visible.passes.rest_is (told_of o.0.visible h.0.0) in
-        let b = p.0.shadow.passes.rest_is (told_of o.0.shadow h.0.1) in
-        let e = p.0.odd_is in
-        let f = rests_pass levels olds news h.1 o.1 p.1 in
-        cc
+    rests_pass levels olds news h o p =
+        by_each_then (LevelOn held) (PassesLevel held k) (λ ls os ns. AllByRecursion (BothInOrder held) ls → map (rest_of held) ns ≡ map (passed_cells k) (map (rest_of held) os)) (λ h. refl) (λ l x n ls os ns o p r h.
+        let a = p.visible.passes.rest_is (told_of o.visible h.0.0) in
+        let b = p.shadow.passes.rest_is (told_of o.shadow h.0.1) in
+        let e = p.odd_is in
+        let f = r h.1 in
+        cc) levels olds news o p h
 
     saids : (levels : List LevelRuns) (olds news : List LevelWalks) → AllByRecursion (BothInOrder held) levels → Each (LevelOn held) levels olds → AllByRecursion (λ walk. HeadFrom k walk.head) (walks_in olds) →
         Each (PassesLevel held k) olds news → Each (IsSaid k) (map (rest_of held) olds) news
-    saids [] [] [] h o f p = tt
-    saids [] [] (n ∷ news) h o f p = absurd p
-    saids [] (x ∷ olds) news h o f p = absurd o
-    saids (l ∷ levels) [] news h o f p = absurd o
-    saids (l ∷ levels) (x ∷ olds) [] h o f p = absurd p
-    saids (l ∷ levels) (x ∷ olds) (n ∷ news) h o f p = (
-      record { visible = heard_of_key o.0.visible h.0.0 f.0 p.0.visible; shadow = heard_of_key o.0.shadow h.0.1 f.1.0 p.0.shadow; odd_is = p.0.odd_is },
-      saids levels olds news h.1 o.1 f.1.1 p.1,
-    )
+    saids levels olds news h o f p =
+        by_each_then (LevelOn held) (PassesLevel held k) (λ ls os ns. AllByRecursion (BothInOrder held) ls → AllByRecursion (λ walk. HeadFrom k walk.head) (walks_in os) → Each (IsSaid k) (map (rest_of held) os) ns) (λ h f. tt)
+        (λ l x n ls os ns o p r h f. (record { visible = heard_of_key o.visible h.0.0 f.0 p.visible; shadow = heard_of_key o.shadow h.0.1 f.1.0 p.shadow; odd_is = p.odd_is }, r h.1 f.1.1)) levels olds news o p h f
 
     begins : (levels : List LevelRuns) (walks : List LevelWalks) → AllByRecursion (BothInOrder held) levels → Each (LevelOn held) levels walks → AllByRecursion (λ walk. HeadFrom k walk.head) (walks_in walks) →
         AllByRecursion (OfBoth (BeginsFrom k)) (map (rest_of held) walks)
     begins [] [] h o f = tt
-    begins [] (w ∷ walks) h o f = absurd o
-    begins (l ∷ levels) [] h o f = absurd o
     begins (l ∷ levels) (w ∷ walks) h o f = (
       (
         begins_from held k w.visible.walk o.0.visible.fits o.0.visible.ready (told_of o.0.visible h.0.0) f.0,
@@ -460,101 +364,70 @@ module _ (held : Held) where
       ),
       begins levels walks h.1 o.1 f.1.1,
     )
+    begins _ _ h o f = absurd o
 
     ahead_same : (olds news : List LevelWalks) → Each (PassesLevel held k) olds news → all_ahead news ≤ all_ahead olds
-    ahead_same [] [] p = omega arith
-    ahead_same [] (n ∷ news) p = absurd p
-    ahead_same (x ∷ olds) [] p = absurd p
-    ahead_same (x ∷ olds) (n ∷ news) p =
-        let a = ahead_stays p.0.visible.passes in
-        let b = ahead_stays p.0.shadow.passes in
-        let r = ahead_same olds news p.1 in
-        omega arith
+    ahead_same = by_each (PassesLevel held k) (λ olds news. all_ahead news ≤ all_ahead olds) (omega arith) (λ x n olds news p r.
+        let a = ahead_stays p.visible.passes in
+        let b = ahead_stays p.shadow.passes in
+        omega arith)
 
     -- a step over a key that a head has passes a cell
     ahead_less : (olds news : List LevelWalks) → Each (PassesLevel held k) olds news → AnyHas k (walks_in olds) → all_ahead news < all_ahead olds
-    ahead_less [] [] p a = absurd a
-    ahead_less [] (n ∷ news) p a = absurd p
+    ahead_less [] news p a = absurd a
     ahead_less (x ∷ olds) [] p a = absurd p
-    ahead_less (x ∷ olds) (n ∷ news) p (inl a) =
-        let d = ahead_falls p.0.visible.passes a in
-        let b = ahead_stays p.0.shadow.passes in
+    ahead_less (x ∷ olds) (n ∷ news) p a =
+        let v = ahead_stays p.0.visible.passes in
+        let s = ahead_stays p.0.shadow.passes in
         let r = ahead_same olds news p.1 in
-        omega arith
-    ahead_less (x ∷ olds) (n ∷ news) p (inr (inl a)) =
-        let d = ahead_falls p.0.shadow.passes a in
-        let b = ahead_stays p.0.visible.passes in
-        let r = ahead_same olds news p.1 in
-        omega arith
-    ahead_less (x ∷ olds) (n ∷ news) p (inr (inr a)) =
-        let d = ahead_stays p.0.visible.passes in
-        let b = ahead_stays p.0.shadow.passes in
-        let r = ahead_less olds news p.1 a in
-        omega arith
+        elim a [
+          | inl h ↦ let d = ahead_falls p.0.visible.passes h in omega (arith, d, s, r)
+          | inr (inl h) ↦ let d = ahead_falls p.0.shadow.passes h in omega (arith, d, v, r)
+          | inr (inr h) ↦ let d = ahead_less olds news p.1 h in omega (arith, d, v, s)
+        ]
 
   rising : (levels : List LevelRuns) (walks : List LevelWalks) → AllByRecursion (BothInOrder held) levels → Each (LevelOn held) levels walks → AllByRecursion (OfBoth (IsRising key_cmp)) (map (rest_of held) walks)
   rising [] [] h o = tt
-  rising [] (w ∷ walks) h o = absurd o
-  rising (l ∷ levels) [] h o = absurd o
   rising (l ∷ levels) (w ∷ walks) h o = ((o.0.visible.rising h.0.0, o.0.shadow.rising h.0.1), rising levels walks h.1 o.1)
+  rising _ _ h o = absurd o
 
   nothing_at_end : (levels : List LevelRuns) (walks : List LevelWalks) → AllByRecursion (BothInOrder held) levels → Each (LevelOn held) levels walks → AllByRecursion (λ walk. walk.head ≡ None) (walks_in walks) →
       AllByRecursion (OfBoth (λ run. run ≡ [])) (map (rest_of held) walks)
   nothing_at_end [] [] h o e = tt
-  nothing_at_end [] (w ∷ walks) h o e = absurd o
-  nothing_at_end (l ∷ levels) [] h o e = absurd o
   nothing_at_end (l ∷ levels) (w ∷ walks) h o e = (
     (nothing_left held w.visible.walk o.0.visible.fits o.0.visible.ready (told_of o.0.visible h.0.0) e.0, nothing_left held w.shadow.walk o.0.shadow.fits o.0.shadow.ready (told_of o.0.shadow h.0.1) e.1.0),
     nothing_at_end levels walks h.1 o.1 e.1.1,
   )
+  nothing_at_end _ _ h o e = absurd o
 
   -- ---- what the walks stand for
 
   pub all_fit : (levels : List LevelRuns) (walks : List LevelWalks) → Each (LevelOn held) levels walks → AllByRecursion (LevelFits held) walks
-  all_fit [] [] o = tt
-  all_fit [] (w ∷ walks) o = absurd o
-  all_fit (l ∷ levels) [] o = absurd o
-  all_fit (l ∷ levels) (w ∷ walks) o = (record { visible = o.0.visible.fits; shadow = o.0.shadow.fits }, all_fit levels walks o.1)
+  all_fit = each_all (LevelOn held) (LevelFits held) (λ l w o. record { visible = o.visible.fits; shadow = o.shadow.fits })
 
   pub all_ready : (levels : List LevelRuns) (walks : List LevelWalks) → Each (LevelOn held) levels walks → AllByRecursion IsLevelReady walks
-  all_ready [] [] o = tt
-  all_ready [] (w ∷ walks) o = absurd o
-  all_ready (l ∷ levels) [] o = absurd o
-  all_ready (l ∷ levels) (w ∷ walks) o = (record { visible = o.0.visible.ready; shadow = o.0.shadow.ready }, all_ready levels walks o.1)
+  all_ready = each_all (LevelOn held) IsLevelReady (λ l w o. record { visible = o.visible.ready; shadow = o.shadow.ready })
 
   -- a bad cell of a run that is walked over is one of the levels' runs
   pub bad_of_levels : (number : ℕ) (levels : List LevelRuns) (walks : List LevelWalks) → Each (LevelOn held) levels walks → HasBadRun held number (runs_in walks) → HasBadRun held number (runs_of levels)
-  bad_of_levels number [] [] o b = b
+  bad_of_levels number levels [] o b = absurd b
   bad_of_levels number [] (w ∷ walks) o b = absurd o
-  bad_of_levels number (l ∷ levels) [] o b = absurd b
   bad_of_levels number (l ∷ levels) (w ∷ walks) o (inl b) = inl (subst (λ (r : Run). HasBadIn held r number) o.0.visible.run_is b)
   bad_of_levels number (l ∷ levels) (w ∷ walks) o (inr (inl b)) = inr (go l.shadow (subst (λ (r : Run). HasBadIn held r number) o.0.shadow.run_is b))
     where
       go : (shadow : Option Run) → HasBadIn held (shadow_or_none shadow l.visible) number → HasBadRun held number (with_shadow shadow (runs_of levels))
       go None b = let w = b.within in absurd (omega arith)
       go (Some run) b = inl b
-  bad_of_levels number (l ∷ levels) (w ∷ walks) o (inr (inr b)) = inr (skip l.shadow (bad_of_levels number levels walks o.1 b))
-    where
-      skip : (shadow : Option Run) → HasBadRun held number (runs_of levels) → HasBadRun held number (with_shadow shadow (runs_of levels))
-      skip None b = b
-      skip (Some run) b = inr b
+  bad_of_levels number (l ∷ levels) (w ∷ walks) o (inr (inr b)) = inr (skipped_bad held number l.shadow (runs_of levels) (bad_of_levels number levels walks o.1 b))
 
   -- ---- how many cells there are
 
   ahead_whole : (levels : List LevelRuns) (walks : List LevelWalks) → Each (LevelOn held) levels walks → all_ahead walks ≤ cells_in (runs_of levels)
-  ahead_whole [] [] o = omega arith
-  ahead_whole [] (w ∷ walks) o = absurd o
-  ahead_whole (l ∷ levels) [] o = absurd o
-  ahead_whole (l ∷ levels) (w ∷ walks) o =
-      let a : w.visible.walk.run.len ≡ l.visible.len = ap (λ (r : Run). r.len) o.0.visible.run_is in
-      let b : w.shadow.walk.run.len ≡ (shadow_run l).len = ap (λ (r : Run). r.len) o.0.shadow.run_is in
-      let r = ahead_whole levels walks o.1 in
-      let c = go l.shadow in
-      omega arith
-    where
-      go : (shadow : Option Run) → cells_in (with_shadow shadow (runs_of levels)) ≡ (shadow_or_none shadow l.visible).len + cells_in (runs_of levels)
-      go None = omega arith
-      go (Some run) = refl
+  ahead_whole = by_each (LevelOn held) (λ levels walks. all_ahead walks ≤ cells_in (runs_of levels)) (omega arith) (λ l w levels walks o r.
+      let a : w.visible.walk.run.len ≡ l.visible.len = ap (λ (r : Run). r.len) o.visible.run_is in
+      let b : w.shadow.walk.run.len ≡ (shadow_run l).len = ap (λ (r : Run). r.len) o.shadow.run_is in
+      let c = shadow_cells l.shadow l.visible (runs_of levels) in
+      omega arith)
 
   run_small : (run : Run) → held.fixed.levels ≤ 23 → HasRun held run → run.len ≤ slot_size 22
   run_small run h r = let a = slot_size-mono run.level 22 (let l = r.level_in in omega arith) in let b = r.within in omega arith
@@ -605,12 +478,8 @@ module _ {held : Held} {last : ℕ} {levels : List LevelRuns} {walks : List Leve
   heads : (k : List ℕ) → least_from None (walks_in walks) ≡ Some k → AllByRecursion (λ walk. HeadFrom k walk.head) (walks_in walks)
   heads k least = (least_is None (walks_in walks) k least).from
 
-  any_head : (k : List ℕ) → (None ≡ Some k) ⊎ AnyHas k (walks_in walks) → AnyHas k (walks_in walks)
-  any_head k (inl e) = cc
-  any_head k (inr a) = a
-
   pub counting_less : (k : List ℕ) → least_from None (walks_in walks) ≡ Some k → (news : List LevelWalks) → Each (PassesLevel held k) walks news → all_ahead news < all_ahead walks
-  counting_less k least news p = ahead_less held k walks news p (any_head k (least_is None (walks_in walks) k least).any)
+  counting_less k least news p = ahead_less held k walks news p (some_head k (walks_in walks) (least_is None (walks_in walks) k least).any)
 
   module _ (k : List ℕ) (least : least_from None (walks_in walks) ≡ Some k) (news : List LevelWalks) (p : Each (PassesLevel held k) walks news) where
     pub counting_on : {after : List LiveCount} {still : Bool} → after ≡ counted counts news → (IsTrue still ↔ (IsTrue stamped × IsWithin last (visible_said news))) → Counting held last levels news after still
@@ -646,32 +515,15 @@ module _ {held : Held} {last : ℕ} {levels : List LevelRuns} {walks : List Leve
     pub stamped_ends : IsTrue stamped ↔ AreStamped last (live_pairs (visible_runs (map (cells_of held) levels)))
     stamped_ends = ((λ t. (c.stamps_are o).1 (t, stamps_end last (map (rest_of held) walks) left_nothing)), (λ h. ((c.stamps_are o).0 h).0))
 
--- ---- the same over an equal object and list
+-- ---- a new list written over an old one
 
-same_passes : {held object : Held} (k : List ℕ) {xs olds : List LevelWalks} (news : List LevelWalks) → held ≡ object → xs ≡ olds → Each (PassesLevel held k) xs news → Each (PassesLevel object k) olds news
-same_passes {held} {object} k {xs} {olds} news e f h = subst (λ (x : Held). Each (PassesLevel x k) olds news) e (subst (λ (z : List LevelWalks). Each (PassesLevel held k) z news) f h)
-
--- and with the new list written over the old one
-refilled_walks : (held : Held) (k : List ℕ) {xs olds : List LevelWalks} (news : List LevelWalks) → xs ≡ olds → Each (PassesLevel held k) xs news → refill (length olds) olds news ≡ news
-refilled_walks held k {xs} {olds} news f h = refilled olds news (each_length (PassesLevel held k) xs news h ∙ ap length f)
+-- what holds of a list and the new one holds of an equal list and of what is written over it
+pub refilled_as : (held : Held) (k : List ℕ) {xs olds : List LevelWalks} (news : List LevelWalks) → xs ≡ olds → Each (PassesLevel held k) xs news →
+    (P : List LevelWalks → List LevelWalks → Type 0) → P xs news → P olds (refill (length olds) olds news)
+refilled_as held k {xs} {olds} news f h P p =
+    let r = sym (refilled olds news (each_length (PassesLevel held k) xs news h ∙ ap length f)) in
+    transport (λ i. P (f i) (r i)) p
 
 pub refilled_passes : {held object : Held} (k : List ℕ) {xs olds : List LevelWalks} (news : List LevelWalks) → held ≡ object → xs ≡ olds → Each (PassesLevel held k) xs news →
     Each (PassesLevel object k) olds (refill (length olds) olds news)
-refilled_passes {held} {object} k {xs} {olds} news e f h = subst (Each (PassesLevel object k) olds) (sym (refilled_walks held k news f h)) (same_passes k news e f h)
-
-pub refilled_unread : (held : Held) (k : List ℕ) {xs olds : List LevelWalks} (news : List LevelWalks) (before after : ℕ) → xs ≡ olds → Each (PassesLevel held k) xs news →
-    after + all_unread news ≤ before + all_unread xs → after + all_unread (refill (length olds) olds news) ≤ before + all_unread olds
-refilled_unread held k {xs} {olds} news before after f h u =
-    let a = ap all_unread (refilled_walks held k news f h) in
-    let b = ap all_unread f in
-    omega (arith, a, b, u)
-
-pub refilled_blocks : (held : Held) {old new : State} {n : ℕ} (k : List ℕ) {xs olds : List LevelWalks} (news : List LevelWalks) → xs ≡ olds → Each (PassesLevel held k) xs news → AllReadOn old new n xs news →
-    new.spent.turned + all_left new (refill (length olds) olds news) ≤ old.spent.turned + all_left old olds
-refilled_blocks held {old} {new} k {xs} {olds} news f h r =
-    let p = ap (all_left new) (refilled_walks held k news f h) in
-    let q = ap (all_left old) f in
-    omega (arith, r.blocks, p, q)
-
-pub refilled_stay : (held : Held) (k : List ℕ) {xs olds : List LevelWalks} (news : List LevelWalks) (n : ℕ) → xs ≡ olds → Each (PassesLevel held k) xs news → FirstStay n xs news → FirstStay n olds (refill (length olds) olds news)
-refilled_stay held k {xs} {olds} news n f h s = subst (FirstStay n olds) (sym (refilled_walks held k news f h)) (subst (λ (ws : List LevelWalks). FirstStay n ws news) f s)
+refilled_passes {held} k {xs} news e f h = refilled_as held k news f h (Each (PassesLevel _ k)) (subst (λ (x : Held). Each (PassesLevel x k) xs news) e h)

@@ -1,36 +1,15 @@
 -- The live keys of the levels of a file: the windows of its levels, the runs that are counted, and the verdict by their counts.
-use Rattle.std.proofs.Common.{◌≡◌, ℕ, ◌+◌, ◌^◌, ◌<◌, ◌≤◌, ◌==◌, Bool, true, false, Option, cond, if◌then◌else◌, refl, sym, ap, subst, ◌∙◌, arith, inl, inr, ◌↔◌, zero, suc, List, [], ◌∷◌, ◌++◌, length}
-use Rattle.std.proofs.Common.{map, drop, None, Some, IsTrue, Err}
-use Rattle.std.specs.List.{AllByRecursion}
-use Rattle.cola_runs.specs.Cells.{IsRising, IsWellFormed}
-use Rattle.cola_laws.specs.Chain.{visibles, shadows}
-use Rattle.cola_cell.specs.declared.cell.Run.{Run}
-use Rattle.cola_cell.specs.declared.fault.ReadFault.{ReadFault}
-use Rattle.cola_cell.specs.Held.{Held, LawCell}
-use Rattle.cola_cell.specs.Order.{key_cmp}
-use Rattle.cola_cell.specs.ToldCells.{run_cells}
-use Rattle.cola_clock.specs.Clock.{works, is_over, window_step, period, is_odd}
-use Rattle.cola_clock.specs.Schedule.{phase_at}
-use Rattle.cola_clock.specs.declared.state.Phase.{Phase}
-use Rattle.cola_clock.specs.declared.state.Phase.TheVariants.{Before, Inside, After}
-use Rattle.cola_clock.proofs.Laws.{is_over-suc}
-use Rattle.cola_layout.specs.declared.header.Header.{Header}
-use Rattle.cola_layout.proofs.Powers.{power-le, next_power}
-use Rattle.cola_verdict.specs.declared.verdict.Flaw.{Flaw}
-use Rattle.cola_verdict.specs.declared.verdict.Flaw.TheVariants.{Cell, Order, Sample, Length, Shadow, Live, Count, Stamp}
-use Rattle.cola_verdict.specs.declared.verdict.Verdict.{Verdict}
-use Rattle.cola_verdict.specs.declared.verdict.Verdict.TheVariants.{Sound, Broken}
-use Rattle.cola_verdict.specs.Tests.{FileLevel, Tested, level_at, below_at, live_pairs, AreCellsTold, OrderAt, ShadowAt, LiveAt, EachLevel, IsFirst}
-use Rattle.cola_verdict.specs.Verdict.{Passes, IsVerdict}
-use Rattle.cola_check.specs.declared.level_walks.LevelRuns.{LevelRuns}
-use Rattle.cola_check.specs.declared.tally.LiveCount.{LiveCount}
-use Rattle.cola_check.specs.Beside.{IsInOrder}
-use Rattle.cola_check.specs.Chains.{LevelCells, visible_runs, shadow_runs, lives, IsLiveCount, AreLiveCounts, AreStamped}
-use Rattle.cola_check.specs.Found.{tested_by, visible_of, shadow_of}
-use Rattle.cola_check.specs.LevelWalks.{HasLevel, shadow_or_none, with_shadow, runs_of, cells_in, cells_of, AreRunsInOrder}
-use Rattle.cola_check.specs.Living.{finished_shadow, counted_level, counted_from, count_at, AreFew, AreFewAt, AreAllFew, IsFirstCrowded, JudgesWhole, JudgesCounts}
-use Rattle.cola_check.specs.Reading.{IsRunTold, PassCause}
-use Rattle.cola_check.specs.Testing.{HasLevels, FindsVerdict, TestCause, live_ticks}
+use Rattle.std.proofs.Common.{◌≡◌, ℕ, ◌+◌, ◌^◌, ◌<◌, ◌≤◌, ◌==◌, Bool, true, false, true≢false, cond, if◌then◌else◌, refl, sym, ap, subst, ◌∙◌, arith, inl, inr, ◌↔◌, zero, suc, List, [], ◌∷◌, ◌++◌, length, map, drop, None, Some}
+use Rattle.std.proofs.Common.{IsTrue, Err}
+use Rattle.cola_check.proofs.Common.{AllByRecursion, IsRising, IsWellFormed, visibles, shadows, Run, ReadFault, Held, LawCell, key_cmp, run_cells, is_over, period, is_odd, visible_slot, is_over-suc, Header, power-le, next_power}
+use Rattle.cola_check.proofs.Common.{Flaw, Order, Sample, Length, Shadow, Count, Stamp, Verdict, Sound, Broken, FileLevel, Tested, level_at, below_at, live_pairs, AreCellsTold, OrderAt, ShadowAt, LiveAt, EachLevel, IsFirst}
+use Rattle.cola_check.proofs.Common.{IsVerdict, LevelRuns, LiveCount, IsInOrder, by_bool, LevelCells, visible_runs, shadow_runs, AreLiveCounts, AreStamped, tested_by, visible_of, shadow_of, HasLevel, shadow_or_none, with_shadow}
+use Rattle.cola_check.proofs.Common.{runs_of, cells_in, cells_of, AreRunsInOrder, finished_shadow, counted_level, counted_from, count_at, AreFew, AreAllFew, IsFirstCrowded, JudgesWhole, JudgesCounts, IsRunTold, PassCause}
+use Rattle.cola_check.proofs.Common.{HasLevels, FindsVerdict, TestCause, live_ticks}
+use Rattle.cola_verdict.specs.declared.verdict.Flaw.TheVariants.{Cell, Live}
+use Rattle.cola_verdict.specs.Verdict.{Passes}
+use Rattle.cola_check.specs.Chains.{lives}
+use Rattle.cola_check.specs.Living.{AreFewAt}
 use Rattle.cola_check.proofs.Levels.{levels, marks-many, visible-is, shadow-is, below-none, from-level, visible-told, shadow-told}
 use Rattle.cola_check.proofs.ShadowTests.{cause-of-test, formed-of, visible-has, shadow-has, visible-fits, shadow-fits}
 
@@ -45,35 +24,14 @@ clock-fits header =
     omega (arith, clock, more)
 
 -- the window of level 0 is never over
-first-over : (t : ℕ) → false ≡ is_over t 0
-unfolding is_over
-first-over t = refl
-
 pub none-over : (t level : ℕ) → level ≡ 0 → false ≡ is_over t level
-none-over t level e = subst (λ (l : ℕ). false ≡ is_over t l) (sym e) (first-over t)
-
--- behind its window a level's window is over
-pub after-over : (t level : ℕ) (phase : Phase) → phase ≡ phase_at t level → phase ≡ After → true ≡ is_over t level
-unfolding phase_at
-after-over t level phase is after = by (works t level) (is_over t level) (sym is ∙ after)
-  where
-    by : (w o : Bool) → (if w then Inside (window_step t level) else (if o then After else Before)) ≡ After → true ≡ o
-    by true o e = cc
-    by false true e = refl
-    by false false e = cc
+unfolding is_over
+none-over t level e = subst (λ (l : ℕ). false ≡ is_over t l) (sym e) refl
 
 -- whether a slot is that of an odd period
-pub odd-slot : (odd : Bool) (slot : ℕ) → slot ≡ cond odd 1 0 → (slot == 1) ≡ odd
-odd-slot true slot e = ap (λ (s : ℕ). s == 1) e
-odd-slot false slot e = ap (λ (s : ℕ). s == 1) e
-
--- the runs of a level, part by part
-abbrev level-with : Run → Option Run → Bool → LevelRuns
-level-with visible shadow odd = record { visible = visible; shadow = shadow; odd = odd }
-
-pub same-level : (visible run : Run) (shadow other : Option Run) (odd parity : Bool) → visible ≡ run → shadow ≡ other → odd ≡ parity →
-    level-with visible shadow odd ≡ level-with run other parity
-same-level visible run shadow other odd parity a b c = λ i. record { visible = a i; shadow = b i; odd = c i }
+pub odd-slot : (t level : ℕ) → (visible_slot t level == 1) ≡ is_odd (period t level)
+unfolding visible_slot is_odd
+odd-slot t level = refl
 
 -- ---- lists of levels
 
@@ -132,12 +90,8 @@ module _ (header : Header) (held : Held) where
 
   -- ---- their order
 
-  not-over : (t : ℕ) → is_over t 0 ≡ true → ⊥
-  unfolding is_over
-  not-over t e = cc
-
   shadow-formed : EachLevel file (ShadowAt file) → (level : ℕ) → level ≤ bottom → is_over header.clock level ≡ true → IsWellFormed key_cmp (level_at (levels header held) level).shadow
-  shadow-formed passes zero low over = absurd (not-over header.clock over)
+  shadow-formed passes zero low over = absurd (true≢false (sym over ∙ sym (none-over header.clock 0 refl)))
   shadow-formed passes (suc i) low over =
       let m = marks-many header held in
       formed-of header held header.geometry.keys _ (suc i) _ (below_at (levels header held) (suc i)) _ ((passes (suc i) (omega arith)).over over).fit
@@ -189,16 +143,12 @@ module _ (header : Header) (held : Held) where
     visible_is : count.visible ≡ lives (visibles (drop level (levels header held)))
     shadow_is : is_over header.clock level ≡ true → count.shadow ≡ lives (shadows header.clock level (drop level (levels header held)))
 
-  first-counts : (level n : ℕ) (count : LiveCount) → level + suc n ≡ bottom + 1 → IsLiveCount (cells-from level (suc n)) count → CountsAt level count
-  first-counts level n count e is = record {
-    visible_is = is.visible ∙ ap lives (visibles-from level (suc n) e);
-    shadow_is = λ over. is.shadow ∙ ap lives (shadows-from level (suc n) e over);
-  }
-
   counts-at : (i level n : ℕ) (counts : List LiveCount) → i < n → level + n ≡ bottom + 1 → AreLiveCounts (cells-from level n) counts → CountsAt (level + i) (count_at counts i)
   counts-at i level zero counts h e are = absurd (omega arith)
   counts-at i level (suc n) [] h e are = absurd are
-  counts-at zero level (suc n) (count ∷ counts) h e are = subst (λ (l : ℕ). CountsAt l count) (let s : level ≡ level + 0 = omega arith in s) (first-counts level n count e are.0)
+  counts-at zero level (suc n) (count ∷ counts) h e are =
+      subst (λ (l : ℕ). CountsAt l count) (let s : level ≡ level + 0 = omega arith in s)
+      (record { visible_is = are.0.visible ∙ ap lives (visibles-from level (suc n) e); shadow_is = λ over. are.0.shadow ∙ ap lives (shadows-from level (suc n) e over) })
   counts-at (suc i) level (suc n) (count ∷ counts) h e are =
       subst (λ (l : ℕ). CountsAt l (count_at counts i)) (let s : suc level + i ≡ level + suc i = omega arith in s) (counts-at i (suc level) n counts (omega arith) (omega arith) are.1)
 
@@ -263,12 +213,7 @@ module _ (header : Header) (held : Held) where
         (later (Live ∷ []) (all-live few, tt), ((λ counted. is.0 (counted ∙ sym live-is)), is.1, is.2))
     by-whole (Broken Stamp level number) few is =
         (later (Live ∷ Count ∷ []) (all-live few, (is.0 ∙ live-is, tt)), ((λ given. is.1 (stamps.1 given)), is.2, is.3))
-    by-whole (Broken Cell level number) few is = absurd is
-    by-whole (Broken Order level number) few is = absurd is
-    by-whole (Broken Sample level number) few is = absurd is
-    by-whole (Broken Length level number) few is = absurd is
-    by-whole (Broken Shadow level number) few is = absurd is
-    by-whole (Broken Live level number) few is = absurd is
+    by-whole _ few is = absurd is
 
     pub by-counts : (verdict : Verdict) → JudgesCounts header counts stamped verdict → IsVerdict file verdict
     by-counts verdict (inl crowded) = subst (IsVerdict file) (sym crowded.2) (passed, (first-live crowded.0 crowded.3, crowded.4))
@@ -288,12 +233,11 @@ module _ (header : Header) (held : Held) where
 
 module _ (header : Header) where
   level-cells : (level : ℕ) → level ≤ header.geometry.bottom → (over : Bool) (runs : List Run) → (visible_of header level).len + cells_in (with_shadow (if over then Some (shadow_of header level) else None) runs) ≤ 2 ^ (level + 3) + cells_in runs
-  level-cells level low over runs = by over (visible-fits header level low) (shadow-fits header level low) (next_power (level + 2) (level + 3) (omega arith))
-    where
-      by : (over : Bool) → (visible_of header level).len ≤ 2 ^ (level + 2) → (shadow_of header level).len ≤ 2 ^ (level + 2) → 2 ^ (level + 3) ≡ 2 ^ (level + 2) + 2 ^ (level + 2) →
-          (visible_of header level).len + cells_in (with_shadow (if over then Some (shadow_of header level) else None) runs) ≤ 2 ^ (level + 3) + cells_in runs
-      by true a b h = omega arith
-      by false a b h = omega arith
+  level-cells level low over runs =
+      let a : (visible_of header level).len ≤ 2 ^ (level + 2) = visible-fits header level low in
+      let b : (shadow_of header level).len ≤ 2 ^ (level + 2) = shadow-fits header level low in
+      let h = next_power (level + 2) (level + 3) (omega arith) in
+      by_bool (λ o. (visible_of header level).len + cells_in (with_shadow (if o then Some (shadow_of header level) else None) runs) ≤ 2 ^ (level + 3) + cells_in runs) (omega (arith, a, b, h)) (omega (arith, a, b, h)) over
 
   cells-from_level : (level n : ℕ) → level + n ≤ header.geometry.bottom + 1 → cells_in (runs_of (counted_from header level n)) + 2 ^ (level + 3) ≤ 2 ^ (level + n + 3)
   cells-from_level level zero h = let e : 2 ^ (level + 3) ≡ 2 ^ (level + 0 + 3) = ap (λ (n : ℕ). 2 ^ n) (let s : level + 3 ≡ level + 0 + 3 = omega arith in s) in omega arith

@@ -1,56 +1,26 @@
 -- The tests of the visible runs: what is known of the first cells of a run, its sample, and the first flaws of levels.
-use Rattle.std.proofs.Common.{◌≡◌, ℕ, suc, ◌+◌, ◌*◌, true, false, List, [], ◌∷◌, ◌++◌, length, take, slice_get, Option, None, Some, refl, sym, ap, subst, ◌∙◌, arith, Less, Ordering, length-append}
-use Rattle.std.proofs.Common.{◌↔◌, ◌/◌, ◌<◌, ◌≤◌, min, IsTrue, Bool, if◌then◌else◌, below_more, inl, inr, ◌^◌, Result, Ok, Err, IfOk, IfErr}
-use Rattle.std.specs.Cmp.{IsTotalOrder}
-use Rattle.std.specs.List.{AllByRecursion}
-use Rattle.std.specs.List.Sorted.{IsStrictlySortedBy}
-use Rattle.std.specs.Option.{option_or, option_map, option_to_list}
-use Rattle.std.proofs.Math.Seq.{take-append_seam}
+use Rattle.std.proofs.Common.{◌≡◌, ℕ, suc, ◌+◌, ◌*◌, true, false, List, [], ◌∷◌, ◌++◌, length, take, slice_get, Option, None, Some, refl, sym, ap, subst, ◌∙◌, arith, Less, Ordering, length-append, ◌↔◌, ◌/◌, ◌<◌, ◌≤◌, min, IsTrue}
+use Rattle.std.proofs.Common.{Bool, if◌then◌else◌, below_more, inl, inr, ◌^◌, Result, Ok, Err, IfOk, IfErr, option_map, option_to_list, take_all, append-nil, append_assoc, IfSome}
+use Rattle.cola_check.proofs.Common.{IsTotalOrder, AllByRecursion, IsStrictlySortedBy, option_or, take-append_seam, take-append-le, slice_get_past, cases_lt, transport, Entry, Look, place_cmp, link_of, look_keys, count_looks}
+use Rattle.cola_check.proofs.Common.{sample, IsRising, IsLinked, IsOldValue, place_total, all_append, visibles, Stamped, LawCell, as_cell, Held, Spot, key_cmp, Run, IsGiven, given_is_told, cell_at, cells, run_cells, length-cells}
+use Rattle.cola_check.proofs.Common.{get-cells, cells-more, ReadFault, period, is_odd, Header, next_power, power-le, HasRun, EndsOrder, HasSample, Tested, levels_in, level_at, OrderAt, FileLevel, AreCellsTold, HasFew, below_at}
+use Rattle.cola_check.proofs.Common.{no-order, OrderIs, ComesNext, Suits, BeginsSample, IsLast, lists_below, sample_len, sample_reads, AreBothTold, IsFew, IsRunTold, PassCause, OrderEndsAt, IsAtFirst, IsFirstFlaw, FindsFirst}
+use Rattle.cola_check.proofs.Common.{IsBelow, AreFewAt, AreTestsAt, Few, RunTests, tested_by, visible_of, TestCause, visible_ticks}
 use Rattle.std.proofs.lemmas.Cmp.{nat_list_cmp_total}
-use Rattle.std.proofs.lemmas.List.{take-append-le, take_all, append-nil, append_assoc}
-use Rattle.std.proofs.lemmas.Option.{slice_get_past}
-use Rattle.std.specs.Prelude.{IfSome}
-use Rattle.std.proofs.lemmas.Bool.{cases_lt}
-use Rattle.std.proofs.Math.Path.{transport}
-use Rattle.cola_runs.specs.Cells.{Cell, Entry, Look, place_cmp, link_of, look_keys, count_looks, count_young, sample, IsRising, IsLinked, IsOldValue, key_of}
-use Rattle.cola_runs.proofs.Order.{place_total, all_change}
+use Rattle.cola_runs.specs.Cells.{Cell, key_of}
+use Rattle.cola_runs.proofs.Order.{all_change}
 use Rattle.cola_runs.proofs.Counts.{looks_are_keys}
 use Rattle.cola_runs.proofs.Deciding.{refuses}
 use Rattle.cola_runs.proofs.Samples.{sample_length, sample_at}
-use Rattle.cola_laws.specs.Chain.{visibles}
 use Rattle.cola_cell.specs.declared.cell.Cell.{Cell as RunCell}
-use Rattle.cola_cell.specs.Held.{Stamped, LawCell, as_cell, Held, Spot}
-use Rattle.cola_cell.specs.Order.{key_cmp}
-use Rattle.cola_cell.specs.declared.cell.Run.{Run}
-use Rattle.cola_cell.specs.Spent.{IsGiven}
-use Rattle.cola_cell.proofs.RunLemmas.{given_is_told}
-use Rattle.cola_cell.specs.ToldCells.{cell_at, cells, run_cells}
-use Rattle.cola_cell.proofs.CellLists.{length-cells, get-cells, cells-more}
-use Rattle.cola_cell.specs.declared.fault.ReadFault.{ReadFault}
-use Rattle.cola_clock.specs.Clock.{period, is_odd}
-use Rattle.cola_layout.specs.declared.header.Header.{Header}
-use Rattle.cola_layout.proofs.Powers.{next_power, power-le}
-use Rattle.cola_look.specs.Runs.{HasRun}
-use Rattle.cola_verdict.specs.Tests.{IsInOrder, EndsOrder, HasSample, Tested, levels_in, level_at, OrderAt, FileLevel, AreCellsTold, HasFew, below_at}
-use Rattle.cola_verdict.proofs.Prefixes.{no-order}
+use Rattle.cola_verdict.specs.Tests.{IsInOrder}
 use Rattle.cola_check.specs.Kinds.{StandsBehind}
-use Rattle.cola_check.specs.Prefix.{OrderIs, ComesNext, Suits, BeginsSample, IsLast, lists_below, sample_len, sample_reads, AreBothTold, IsFew}
-use Rattle.cola_check.specs.Reading.{IsRunTold, PassCause}
-use Rattle.cola_check.specs.Firsts.{OrderEndsAt, IsAtFirst, IsFirstFlaw, FindsFirst, IsBelow, AreFewAt, AreTestsAt}
-use Rattle.cola_check.specs.declared.visible.Few.{Few}
-use Rattle.cola_check.specs.declared.visible.RunTests.{RunTests}
-use Rattle.cola_check.specs.Found.{tested_by, visible_of}
-use Rattle.cola_check.specs.Testing.{TestCause, visible_ticks}
 use Rattle.cola_check.proofs.ShadowTests.{visible-fits, visible-has, slot-is, twice, cause-of-test}
-use Rattle.cola_check.proofs.Levels.{levels, visible-is, visible-told, visibles-next, visibles-none, below-next, below-none}
+use Rattle.cola_check.proofs.Levels.{none-sorted, by-place, levels, visible-is, visible-told, visibles-next, below-next, below-none}
 
 -- ---- a list and one more
 
 module _ {X : Type 0} (P : X → Type 0) where
-  all-more : (xs : List X) (x : X) → AllByRecursion P xs → P x → AllByRecursion P (xs ++ x ∷ [])
-  all-more [] x h p = (p, tt)
-  all-more (y ∷ xs) x h p = (h.0, all-more xs x h.1 p)
-
   all-less : (xs : List X) (x : X) → AllByRecursion P (xs ++ x ∷ []) → AllByRecursion P xs × P x
   all-less [] x h = (tt, h.0)
   all-less (y ∷ xs) x h = let r = all-less xs x h.1 in ((h.0, r.0), r.1)
@@ -59,7 +29,7 @@ module _ {X : Type 0} {R : X → X → Ordering} (o : IsTotalOrder R) where
   rising-more : (xs : List X) (x : X) → IsStrictlySortedBy R xs → AllByRecursion (λ y. R y x ≡ Less) xs → IsStrictlySortedBy R (xs ++ x ∷ [])
   unfolding IsStrictlySortedBy
   rising-more [] x h k = (tt, tt)
-  rising-more (y ∷ xs) x h k = (all-more (λ z. R y z ≡ Less) xs x h.0 k.0, rising-more xs x h.1 k.1)
+  rising-more (y ∷ xs) x h k = (all_append (λ z. R y z ≡ Less) xs (x ∷ []) h.0 (k.0, tt), rising-more xs x h.1 k.1)
 
   rising-less : (xs : List X) (x : X) → IsStrictlySortedBy R (xs ++ x ∷ []) → IsStrictlySortedBy R xs × AllByRecursion (λ y. R y x ≡ Less) xs
   unfolding IsStrictlySortedBy
@@ -71,22 +41,11 @@ module _ {X : Type 0} {R : X → X → Ordering} (o : IsTotalOrder R) where
 
   -- what stands behind the last of a rising list stands behind all of it
   behind-all : (xs : List X) (last x : X) → IsStrictlySortedBy R (xs ++ last ∷ []) → R last x ≡ Less → AllByRecursion (λ y. R y x ≡ Less) (xs ++ last ∷ [])
-  behind-all xs last x h e = all-more (λ y. R y x ≡ Less) xs last (all_change (λ y l. o.trans y last x l e) xs (rising-less xs last h).1) e
+  behind-all xs last x h e = all_append (λ y. R y x ≡ Less) xs (last ∷ []) (all_change (λ y l. o.trans y last x l e) xs (rising-less xs last h).1) (e, tt)
 
 -- ---- counts, keys and links
 
 module _ {K V : Type 0} where
-  pub looks-more : (xs ys : List (Cell K V)) → count_looks (xs ++ ys) ≡ count_looks xs + count_looks ys
-  looks-more [] ys = omega arith
-  looks-more (Entry k i y l ∷ xs) ys = looks-more xs ys
-  looks-more (Look k l ∷ xs) ys = let rest = looks-more xs ys in omega (arith, rest)
-
-  pub young-more : (xs ys : List (Cell K V)) → count_young (xs ++ ys) ≡ count_young xs + count_young ys
-  young-more [] ys = omega arith
-  young-more (Entry k i true l ∷ xs) ys = let rest = young-more xs ys in omega (arith, rest)
-  young-more (Entry k i false l ∷ xs) ys = young-more xs ys
-  young-more (Look k l ∷ xs) ys = young-more xs ys
-
   keys-more : (xs ys : List (Cell K V)) → look_keys (xs ++ ys) ≡ look_keys xs ++ look_keys ys
   keys-more [] ys = refl
   keys-more (Entry k i y l ∷ xs) ys = keys-more xs ys
@@ -169,7 +128,7 @@ module _ (cells : List LawCell) (looks : ℕ) (many : looks ≡ count_looks cell
   keys-many = many ∙ looks_are_keys cells
 
   pub sample-more : (lists : List (List LawCell)) (c : LawCell) → BeginsSample cells lists → Suits lists looks c → BeginsSample (cells ++ c ∷ []) lists
-  sample-more [] c h s = all-more IsOldValue cells c h s
+  sample-more [] c h s = all_append IsOldValue cells (c ∷ []) h (s, tt)
   sample-more (next ∷ runs) (Entry k i y l) h s = (h.0, ap (λ ks. ks ++ h.0) (keys-more cells (Entry k i y l ∷ []) ∙ append-nil (look_keys cells)) ∙ h.1)
   sample-more (next ∷ runs) (Look k l) h s =
       let at : slice_get h.0 0 ≡ Some k = sym (key-behind (look_keys cells) h.0) ∙ ap (λ (n : ℕ). slice_get (look_keys cells ++ h.0) n) (sym keys-many) ∙ ap (λ ks. slice_get ks looks) h.1 ∙ s in
@@ -186,8 +145,7 @@ module _ (cells : List LawCell) (looks : ℕ) (many : looks ≡ count_looks cell
 -- ---- no cells
 
 pub order-empty : IsInOrder []
-unfolding IsStrictlySortedBy
-order-empty = record { rising = tt; linked = tt }
+order-empty = record { rising = none-sorted _; linked = tt }
 
 pub sample-empty : (lists : List (List LawCell)) → BeginsSample [] lists
 sample-empty [] = tt
@@ -213,12 +171,9 @@ module _ (held : Held) (run : Run) where
       ∙ ap (λ (n : ℕ). Some (key_of (cell_at (held.spots run.level run.slot n)))) (let e : 0 + (8 * number + 7) ≡ 8 * number + 7 = omega arith in e)
       ∙ ap (λ (c : LawCell). Some (key_of c)) (given-at held run (8 * number + 7) cell t within g)
 
-  no-key : (key : List ℕ) → None ≡ Some key → ⊥
-  no-key key e = cc
-
   pub sampled-past : (number : ℕ) (key : List ℕ) → run.len / 8 ≤ number → IsTrue false ↔ (slice_get (sample (run_cells held run)) number ≡ Some key)
   sampled-past number key h =
-      refuses (λ e. no-key key (sym (slice_get_past (sample (run_cells held run)) number (let m = sample-many in omega (arith, m, h))) ∙ e))
+      refuses (λ e. let none : None ≡ Some key = sym (slice_get_past (sample (run_cells held run)) number (let m = sample-many in omega (arith, m, h))) ∙ e in cc)
 
 -- old values are no lookahead cells
 old-looks : (cells : List LawCell) → AllByRecursion IsOldValue cells → count_looks cells ≡ 0
@@ -243,9 +198,6 @@ sample-whole held (Some run) rest cells h e =
 pub sample-begins : (held : Held) (below : Option Run) (rest : List (List LawCell)) (cells : List LawCell) → HasSample cells (lists_below held below rest) → BeginsSample cells (lists_below held below rest) × (count_looks cells ≡ sample_len below)
 sample-begins held None rest cells h = (h, old-looks cells h)
 sample-begins held (Some run) rest cells h = (([], append-nil (look_keys cells) ∙ h), looks_are_keys cells ∙ ap length h ∙ sample-many held run)
-
-pub some-same : {X : Type 0} (x y : X) → Some x ≡ Some y → x ≡ y
-some-same x y e = cc
 
 -- the cells up to one of them, and with it
 pub cells-next : (spots : ℕ → Spot) (n : ℕ) (c : LawCell) → cell_at (spots n) ≡ c → cells spots 0 (n + 1) ≡ cells spots 0 n ++ c ∷ []
@@ -289,23 +241,14 @@ run-more passes level None false h is = found-here passes IsAtFirst level 0 h (�
 -- ---- the run below
 
 module _ (header : Header) (level : ℕ) where
-  -- it is none, or that of the next level
-  by-below : (P : Option Run → Type 0) (below : Option Run) → IsBelow header level below → (header.geometry.bottom ≤ level → P None) → (level < header.geometry.bottom → P (Some (visible_of header (suc level)))) → P below
-  by-below P below is none some =
-      elim (cases_lt level header.geometry.bottom) [
-        | inl above ↦ subst P (sym (is.above above)) (some above)
-        | inr bottom ↦ subst P (sym (is.bottom bottom)) (none bottom)
-      ]
-
   -- its sample is no longer than a quarter of a slot
   below-few : (below : Option Run) → IsBelow header level below → sample_len below ≤ 2 ^ level
   below-few below is =
-      by-below (λ b. sample_len b ≤ 2 ^ level) below is (λ bottom. omega arith)
-      (λ above.
+      by-place header level (λ b. sample_len b ≤ 2 ^ level) is.above is.bottom (λ above.
       let fits = visible-fits header (suc level) (omega (arith, above)) in
       let four = slot-is header (suc level) in
       let two = twice header level in
-      omega (arith, fits, four, two))
+      omega (arith, fits, four, two)) (λ bottom. omega arith)
 
   -- one pass over the run, and one over the sample
   pub level-ticks : (below : Option Run) → level ≤ header.geometry.bottom → IsBelow header level below → (visible_of header level).len + sample_len below ≤ 5 * 2 ^ level
@@ -329,20 +272,19 @@ module _ (header : Header) (level : ℕ) where
     -- it is a run of the object
     pub below-runs : (below : Option Run) → held.fixed.levels ≡ header.geometry.bottom + 1 → IsBelow header level below → IfSome below (HasRun held)
     below-runs below levels is =
-        by-below (λ b. IfSome b (HasRun held)) below is (λ bottom. tt)
-        (λ above. visible-has header held (suc level) levels (omega (arith, above)))
+        by-place header level (λ b. IfSome b (HasRun held)) is.above is.bottom (λ above. visible-has header held (suc level) levels (omega (arith, above))) (λ bottom. tt)
 
     pub both-told : (below : Option Run) → level ≤ header.geometry.bottom → IsBelow header level below → AreCellsTold (tested_by header held) → AreBothTold held (visible_of header level) below
     both-told below low is told = record {
       run_told = visible-told header held level low told;
-      below_told = by-below (λ b. IfSome b (IsRunTold held)) below is (λ bottom. tt) (λ above. visible-told header held (suc level) (omega (arith, above)) told);
+      below_told = by-place header level (λ b. IfSome b (IsRunTold held)) is.above is.bottom (λ above. visible-told header held (suc level) (omega (arith, above)) told) (λ bottom. tt);
     }
 
     -- the lists of the runs below
     lists-are : (below : Option Run) → IsBelow header level below → lists_below held below (visibles (below_at (levels header held) (suc level))) ≡ visibles (below_at (levels header held) level)
     lists-are below is =
-        by-below (λ b. lists_below held b (visibles (below_at (levels header held) (suc level))) ≡ visibles (below_at (levels header held) level)) below is
-        (λ bottom. sym (visibles-none header held level bottom)) (λ above. sym (visibles-next header held level above))
+        by-place header level (λ b. lists_below held b (visibles (below_at (levels header held) (suc level))) ≡ visibles (below_at (levels header held) level)) is.above is.bottom
+        (λ above. sym (visibles-next header held level above)) (λ bottom. sym (ap visibles (below-none header held level bottom)))
 
     few-are : (few : Few) (holds : Bool) (run : List LawCell) → AreFewAt header level (is_odd (period header.clock level)) few → (IsTrue holds ↔ IsFew few run) →
         (IsTrue holds ↔ HasFew header.geometry.keys (is_odd (period header.clock level)) level run (below_at (levels header held) level))
@@ -379,5 +321,5 @@ module _ (header : Header) (level : ℕ) where
       pub cause-answer : (before now : ℕ) (answer : Result RunTests ReadFault) → IfErr answer (PassCause held (run ∷ option_to_list below) before now) → IfErr answer (TestCause header held before now)
       cause-answer = cause-of-test header held (run ∷ option_to_list below) (λ told. (
         subst (IsRunTold held) (sym run_is) (visible-told header held level low told),
-        by-below (λ b. AllByRecursion (IsRunTold held) (option_to_list b)) below is (λ bottom. tt) (λ above. (visible-told header held (suc level) (omega (arith, above)) told, tt)),
+        by-place header level (λ b. AllByRecursion (IsRunTold held) (option_to_list b)) is.above is.bottom (λ above. (visible-told header held (suc level) (omega (arith, above)) told, tt)) (λ bottom. tt),
       ))

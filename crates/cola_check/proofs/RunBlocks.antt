@@ -1,43 +1,17 @@
 -- The blocks that passes over runs turn to.
-use Rattle.std.proofs.Common.{◌≡◌, ℕ, suc, ◌+◌, ◌-◌, ◌*◌, ◌/◌, ◌^◌, ◌<◌, ◌≤◌, Bool, true, false, nat_lt, if◌then◌else◌, Option, None, Some, Result, Ok, Err, OnOk, refl, sym, ap, subst, ◌∙◌, arith}
-use Rattle.std.proofs.Common.{◌≢◌, inr, zero, List, [], ◌∷◌, ◌++◌, length, take, get_or, IfErr}
-use Rattle.std.proofs.lemmas.Bool.{ltb-true}
-use Rattle.std.proofs.lemmas.Nat.{pow_pos, le-div}
+use Rattle.std.proofs.Common.{◌≡◌, ℕ, suc, ◌+◌, ◌-◌, ◌*◌, ◌/◌, ◌^◌, ◌<◌, ◌≤◌, Bool, true, false, nat_lt, if◌then◌else◌, Option, None, Some, Result, Ok, OnOk, refl, sym, ap, subst, ◌∙◌, arith, ◌≢◌, inr, zero, List, [], ◌∷◌, ◌++◌}
+use Rattle.std.proofs.Common.{length, take, get_or, IfErr, ltb-true, pow_pos}
+use Rattle.cola_check.proofs.Common.{le-div, Cell, Reader, Own, Incoming, Run, ReadFault, Held, span, slot_size, Block, block_of, By, Buffer, Reads, State, Header, div-mono, sampled_block, read_left, run_left-next, Feed, Aim}
+use Rattle.cola_check.proofs.Common.{Merger, Pulls, feed_of, IsOther, IsBeside, state, by_bool, on_ok_weaker, IfErr-weaker, cells_above, blocks_from, GoesOn, sample_from, SampleReadsOn, TurnsTo, run_blocks, run_blocks_or}
+use Rattle.cola_check.proofs.Common.{level_blocks, blocks_above, all_blocks, run_in, Beside, Walk, ReadApart, BesideReadsOn, BesideBegan, walk_blocks, unbegun, ReadsOn, LevelRuns, LevelWalks, shadow_run, Each, BeginsLevel}
+use Rattle.cola_check.proofs.Common.{PassesLevel, StandsAt, StandFrom, blocks_at, blocks_of, ReadsAt, ReadFrom, level_left, all_left, LevelReadsOn, AllReadOn, LevelBegan, PassCause, AtLevel, IsAway, IsSpread, FollowsBlocks}
+use Rattle.cola_check.proofs.Common.{ComparesBlocks, merge_blocks, feed_blocks, aim_blocks, by_others}
 use Rattle.std.proofs.Math.Nat.{div-mul-le_self, div-div-eq-div-mul}
-use Rattle.cola_cell.specs.declared.cell.Cell.{Cell}
-use Rattle.cola_cell.specs.declared.cell.Reader.{Reader}
-use Rattle.cola_cell.specs.declared.cell.Reader.TheVariants.{Own, Sample, Incoming}
-use Rattle.cola_cell.specs.declared.cell.Run.{Run}
-use Rattle.cola_cell.specs.declared.fault.ReadFault.{ReadFault}
-use Rattle.cola_cell.specs.Held.{Held, span}
-use Rattle.cola_cell.specs.Places.{slot_size, Block, block_of}
-use Rattle.cola_cell.specs.Spent.{By, Buffer}
-use Rattle.cola_cell.specs.Reads.{Reads}
-use Rattle.cola_cell.specs.State.{State}
-use Rattle.cola_layout.specs.declared.header.Header.{Header}
+use Rattle.cola_cell.specs.declared.cell.Reader.TheVariants.{Sample}
 use Rattle.cola_merge.specs.Blocks.{is_last, groups, run_left, Lasts, feed_left}
-use Rattle.cola_merge.proofs.Groups.{div-mono, sampled_block, read_left, run_left-next}
-use Rattle.cola_merge.specs.declared.aims.Feed.{Feed}
-use Rattle.cola_merge.specs.declared.aims.Aim.{Aim}
-use Rattle.cola_merge.specs.declared.merging.Merger.{Merger}
-use Rattle.cola_merge.specs.Pulls.{Pulls}
-use Rattle.cola_merge.specs.States.{IsOther, IsBeside, state}
-use Rattle.cola_merge.specs.declared.aims.Feed.TheVariants as feed
-use Rattle.cola_check.specs.BadCells.{cells_above}
-use Rattle.cola_check.specs.Blocks.{blocks_from, GoesOn, sample_from, SampleReadsOn, TurnsTo, run_blocks, run_blocks_or, level_blocks, blocks_above, all_blocks}
-use Rattle.cola_check.specs.Found.{run_in}
-use Rattle.cola_check.specs.declared.carried.Beside.{Beside}
-use Rattle.cola_check.specs.declared.walk.Walk.{Walk}
-use Rattle.cola_check.specs.Beside.{ReadApart, BesideReadsOn, BesideBegan}
-use Rattle.cola_check.specs.Walks.{walk_blocks, unbegun, ReadsOn}
-use Rattle.cola_check.specs.declared.level_walks.LevelRuns.{LevelRuns}
-use Rattle.cola_check.specs.declared.level_walks.LevelWalks.{LevelWalks}
-use Rattle.cola_check.specs.LevelWalks.{shadow_run, Each, BeginsLevel, PassesLevel, StandsAt, StandFrom, blocks_at, blocks_of, ReadsAt, ReadFrom, level_left, all_left, LevelReadsOn, AllReadOn, LevelBegan}
-use Rattle.cola_check.specs.Reading.{PassCause}
-use Rattle.cola_check.specs.Cut.{AtLevel, IsAway, IsSpread, FollowsBlocks, ComparesBlocks, merge_blocks, feed_blocks, aim_blocks}
-use Rattle.cola_check.specs.Others.{by_others}
 use Rattle.cola_check.proofs.BadRuns.{some-cells}
-use Rattle.cola_check.proofs.Levels.{taken_next, cause_later}
+use Rattle.cola_check.proofs.Levels.{taken_next, cause_later, sum_append}
+use Rattle.cola_merge.specs.declared.aims.Feed.TheVariants as feed
 
 -- ---- runs that are read in order
 
@@ -60,24 +34,14 @@ read-goes {old} {new} reader run cell at r h =
     omega (arith, here, next)
 
 groups-most : (size at len : ℕ) → 0 < size → groups size at len ≤ len / size + 1
-groups-most size at len p = go (nat_lt at len)
-  where
-    less : (len - 1) / size ≤ len / size
-    less = div-mono (len - 1) len size p (omega arith)
-
-    go : (b : Bool) → (if b then (len - 1) / size - at / size + 1 else 0) ≤ len / size + 1
-    go true = let l = less in omega (arith, l)
-    go false = omega arith
+groups-most size at len p =
+    let l = div-mono (len - 1) len size p (omega arith) in
+    by_bool (λ b. (if b then (len - 1) / size - at / size + 1 else 0) ≤ len / size + 1) (omega (arith, l)) (omega arith) (nat_lt at len)
 
 left-most : (s : ℕ) (last : Option Block) (run : Run) (size len at : ℕ) → 0 < size → run_left s last run size len at ≤ len / size + 1
-left-most s last run size len at p = go (nat_lt (slot_size run.level) s)
-  where
-    most : groups size at len ≤ len / size + 1
-    most = groups-most size at len p
-
-    go : (b : Bool) → (if b then 0 else groups size at len - (if is_last last run.level run.slot (at / size) then 1 else 0)) ≤ len / size + 1
-    go true = omega arith
-    go false = let m = most in omega (arith, m)
+left-most s last run size len at p =
+    let m = groups-most size at len p in
+    by_bool (λ b. (if b then 0 else groups size at len - (if is_last last run.level run.slot (at / size) then 1 else 0)) ≤ len / size + 1) (omega arith) (omega (arith, m)) (nat_lt (slot_size run.level) s)
 
 -- a number where a test holds, which does not
 pub none-by : (b : Bool) (g : ℕ) → (b ≡ true → ⊥) → (if b then g else 0) ≡ 0
@@ -88,11 +52,9 @@ groups-none : (size at len : ℕ) → len ≤ at → groups size at len ≡ 0
 groups-none size at len h = none-by (nat_lt at len) ((len - 1) / size - at / size + 1) (λ e. let l : at < len = ltb-true at len e in omega (arith, l, h))
 
 left-none : (s : ℕ) (last : Option Block) (run : Run) (size len at : ℕ) → len ≤ at → run_left s last run size len at ≡ 0
-left-none s last run size len at h = go (nat_lt (slot_size run.level) s)
-  where
-    go : (b : Bool) → (if b then 0 else groups size at len - (if is_last last run.level run.slot (at / size) then 1 else 0)) ≡ 0
-    go true = refl
-    go false = let e = groups-none size at len h in omega (arith, e)
+left-none s last run size len at h =
+    let e = groups-none size at len h in
+    by_bool (λ b. (if b then 0 else groups size at len - (if is_last last run.level run.slot (at / size) then 1 else 0)) ≡ 0) refl (omega (arith, e)) (nat_lt (slot_size run.level) s)
 
 -- whatever was read last, and from whichever cell on, a run has no more blocks left than it fills
 pub run-most : (object : State) (reader : Reader) (run : Run) (at : ℕ) → blocks_from object reader run at + 1 ≤ run_blocks object.held run
@@ -192,32 +154,28 @@ div-sum x y s p =
     let d : (x / s + y / s) * s ≡ x / s * s + y / s * s = grind arith in
     le-div (x / s + y / s) (x + y) s p (omega (arith, a, b, d))
 
-sum-more : (x y z u w l : ℕ) → x + u ≤ w → y + z ≤ u → x + 4 * l + (y + 2 + (z + 2)) ≤ w + 4 * (l + 1)
+sum-more : (x y z u w l : ℕ) → x + u ≤ w → y + z ≤ u → x + 4 * l + (y + 2 + (z + 2)) ≤ w + 4 * suc l
 sum-more x y z u w l h k = omega (arith, h, k)
 
-sum-less : (x y l b : ℕ) → x ≤ y → l ≤ b → x + 4 * (l + 1) ≤ y + 4 * (b + 1)
+sum-less : (x y l b : ℕ) → x ≤ y → l ≤ b → x + 4 * suc l ≤ y + 4 * (b + 1)
 sum-less x y l b h k = omega (arith, h, k)
 
 module _ (header : Header) (held : Held) where
   -- one level more
-  pub level-more : (level : ℕ) → blocks_above header held level + level_blocks header held level ≤ blocks_above header held (level + 1)
+  pub level-more : (level : ℕ) → blocks_above header held level + level_blocks header held level ≤ blocks_above header held (suc level)
   level-more level =
       let s : ℕ = span held in
       let one : ℕ = (run_in header level 0).len in
       let two : ℕ = (run_in header level 1).len in
       let above : ℕ = cells_above header level in
-      let e : suc level ≡ level + 1 = omega arith in
-      subst (λ (n : ℕ). blocks_above header held level + level_blocks header held level ≤ cells_above header n / s + 4 * (level + 1)) e
-      (sum-more (above / s) (one / s) (two / s) ((one + two) / s) ((above + (one + two)) / s) level (div-sum above (one + two) s (span-pos held)) (div-sum one two s (span-pos held)))
+      sum-more (above / s) (one / s) (two / s) ((one + two) / s) ((above + (one + two)) / s) level (div-sum above (one + two) s (span-pos held)) (div-sum one two s (span-pos held))
 
   -- some levels have no more than all
-  pub some-blocks : (level : ℕ) → level ≤ header.geometry.bottom → blocks_above header held (level + 1) ≤ all_blocks header held
+  pub some-blocks : (level : ℕ) → level ≤ header.geometry.bottom → blocks_above header held (suc level) ≤ all_blocks header held
   some-blocks level low =
       let s : ℕ = span held in
       let most : ℕ = cells_above header (header.geometry.bottom + 1) in
-      let e : suc level ≡ level + 1 = omega arith in
-      subst (λ (n : ℕ). cells_above header n / s + 4 * (level + 1) ≤ all_blocks header held) e
-      (sum-less (cells_above header (suc level) / s) (most / s) level header.geometry.bottom (div-mono (cells_above header (suc level)) most s (span-pos held) (some-cells header level low)) low)
+      sum-less (cells_above header (suc level) / s) (most / s) level header.geometry.bottom (div-mono (cells_above header (suc level)) most s (span-pos held) (some-cells header level low)) low
 
 -- the blocks of some levels, and then of one more
 pub blocks-then : (header : Header) {held object : Held} (level old mid new : ℕ) → held ≡ object → mid ≤ old + blocks_above header object level → new ≤ mid + level_blocks header held level →
@@ -225,31 +183,29 @@ pub blocks-then : (header : Header) {held object : Held} (level old mid new : �
 blocks-then header {held} {object} level old mid new e h k =
     let l : new ≤ mid + level_blocks header object level = subst (λ (x : Held). new ≤ mid + level_blocks header x level) e k in
     let more = level-more header object level in
-    omega (arith, h, l, more)
+    subst (λ (n : ℕ). new ≤ old + blocks_above header object n) (let e : suc level ≡ level + 1 = omega arith in e) (omega (arith, h, l, more))
 
 -- and no more than those of all
 pub blocks-within : (header : Header) {held object : Held} (level old mid new : ℕ) → level ≤ header.geometry.bottom → held ≡ object → mid ≤ old + blocks_above header object level →
     new ≤ mid + level_blocks header held level → new ≤ old + all_blocks header object
-blocks-within header {held} {object} level old mid new low e h k = let upto = blocks-then header level old mid new e h k in let some = some-blocks header object level low in omega (arith, upto, some)
+blocks-within header {held} {object} level old mid new low e h k =
+    let l : new ≤ mid + level_blocks header object level = subst (λ (x : Held). new ≤ mid + level_blocks header x level) e k in
+    let more = level-more header object level in
+    let some = some-blocks header object level low in
+    omega (arith, h, l, more, some)
 
 -- ---- calls
 
 -- a call turns to no more than one that turns to fewer blocks
 pub turns-within : {T : Type 0} (old new : State) (few many : ℕ) (result : Result T ReadFault) → few ≤ many → OnOk result (TurnsTo old new few) → OnOk result (TurnsTo old new many)
-turns-within old new few many (Ok answer) h k = omega (arith, h, k)
-turns-within old new few many (Err fault) h k = tt
+turns-within old new few many result h = on_ok_weaker result (λ k. omega (arith, h, k))
 
 -- one behind another, where the first keeps the cells
 pub turns-then : {T : Type 0} (old between new : State) (few : ℕ) (more : Held → ℕ) (most : ℕ) (result : Result T ReadFault) → between.held ≡ old.held → TurnsTo old between few → few + more old.held ≤ most →
     OnOk result (TurnsTo between new (more between.held)) → OnOk result (TurnsTo old new most)
-turns-then old between new few more most (Ok answer) stays h l k = let e = ap more stays in omega (arith, h, l, k, e)
-turns-then old between new few more most (Err fault) stays h l k = tt
+turns-then old between new few more most result stays h l = let e = ap more stays in on_ok_weaker result (λ k. omega (arith, h, l, k, e))
 
 -- ---- one walk
-
--- a walk has the same blocks left where the cells stay and its buffer has the block that it had
-pub walk-stays : (old new : State) (walk : Walk) → new.held ≡ old.held → new.spent.lasts (By walk.reader walk.run.level) ≡ old.spent.lasts (By walk.reader walk.run.level) → walk_blocks new walk ≡ walk_blocks old walk
-walk-stays old new walk stays e = from-stays old new walk.reader walk.run walk.at stays e
 
 -- behind a cell it has no more
 walk-behind : (object : State) (walk behind : Walk) → behind.run ≡ walk.run → behind.reader ≡ walk.reader → behind.at ≡ walk.at + 1 → walk.at < walk.run.len → walk_blocks object behind ≤ walk_blocks object walk
@@ -274,7 +230,7 @@ reads-then {between = between} {first = first} {walk = walk} {behind = behind} h
 
 -- a walk by another reader keeps its blocks
 pub others-keep : {old new : State} {first last : Walk} → new.held ≡ old.held → ReadsOn old new first last → (walk : Walk) → walk.reader ≢ first.reader → walk_blocks new walk ≡ walk_blocks old walk
-others-keep {old} {new} {first} stays h walk n = walk-stays old new walk stays (h.others_stay (By walk.reader walk.run.level) (λ e. n (let f : walk.reader ≡ first.reader = cc in f)))
+others-keep {old} {new} {first} stays h walk n = from-stays old new walk.reader walk.run walk.at stays (h.others_stay (By walk.reader walk.run.level) (λ e. n (let f : walk.reader ≡ first.reader = cc in f)))
 
 -- a walk that has not begun has no more blocks than its run fills
 pub unbegun-most : (object : State) (run : Run) (reader : Reader) → walk_blocks object (unbegun run reader) ≤ run_blocks object.held run
@@ -345,14 +301,12 @@ module _ {old one new : State} (first : one.held ≡ old.held) (second : new.hel
 
 pub levels-read : {T : Type 0} {old one : State} (new : State) (walks now : LevelWalks) (result : Result T ReadFault) → one.held ≡ old.held → new.held ≡ one.held → now.visible.walk.reader ≡ walks.visible.walk.reader →
     ReadsOn old one walks.visible.walk now.visible.walk → OnOk result (ReadsOn one new walks.shadow.walk now.shadow.walk) → OnOk result ((n : ℕ) → ReadsAt n walks → LevelReadsOn old new n walks now)
-levels-read new walks now (Ok answer) first second by r s = λ n at. level-reads first second n walks now at by r s
-levels-read new walks now (Err fault) first second by r s = tt
+levels-read new walks now result first second by r = on_ok_weaker result (λ s n at. level-reads first second n walks now at by r s)
 
 -- why the second of two passes was refused
 pub second-cause : {T : Type 0} (held object : Held) (first second : Run) (before between now : ℕ) (result : Result T ReadFault) → held ≡ object → between ≡ before → IfErr result (PassCause held (second ∷ []) between now) →
     IfErr result (PassCause object (first ∷ second ∷ []) before now)
-second-cause held object first second before between now (Ok answer) e c h = tt
-second-cause held object first second before between now (Err fault) e c h = cause_later held object (second ∷ []) (first ∷ second ∷ []) before between now fault e c (λ n b. inr b) h
+second-cause held object first second before between now result e c = IfErr-weaker result _ _ (λ fault. cause_later held object (second ∷ []) (first ∷ second ∷ []) before between now fault e c (λ n b. inr b))
 
 -- a level that passed a key stands where it stood
 pub reads-at_stays : {held : Held} {k : List ℕ} {n : ℕ} {old new : LevelWalks} → ReadsAt n old → PassesLevel held k old new → ReadsAt n new
@@ -365,17 +319,18 @@ reads-at_stays at p = record {
 
 pub read-from_stays : (held : Held) (k : List ℕ) (n : ℕ) (olds news : List LevelWalks) → ReadFrom n olds → Each (PassesLevel held k) olds news → ReadFrom n news
 read-from_stays held k n [] [] at p = tt
-read-from_stays held k n [] (y ∷ news) at p = absurd p
-read-from_stays held k n (x ∷ olds) [] at p = absurd p
 read-from_stays held k n (x ∷ olds) (y ∷ news) at p = (reads-at_stays at.0 p.0, read-from_stays held k (suc n) olds news at.1 p.1)
+read-from_stays held k n _ _ at p = absurd p
 
 -- ---- the walks of levels
 
 -- a level has the same blocks left where the cells stay and its buffers have the blocks that they had
 level-stays : (old new : State) (n : ℕ) (level : LevelWalks) → new.held ≡ old.held → ReadsAt n level → ((reader : Reader) → new.spent.lasts (By reader n) ≡ old.spent.lasts (By reader n)) → level_left new level ≡ level_left old level
 level-stays old new n level stays at h =
-    let x = walk-stays old new level.visible.walk stays (subst (λ (l : ℕ). new.spent.lasts (By level.visible.walk.reader l) ≡ old.spent.lasts (By level.visible.walk.reader l)) (sym at.visible_at) (h level.visible.walk.reader)) in
-    let y = walk-stays old new level.shadow.walk stays (subst (λ (l : ℕ). new.spent.lasts (By level.shadow.walk.reader l) ≡ old.spent.lasts (By level.shadow.walk.reader l)) (sym at.shadow_at) (h level.shadow.walk.reader)) in
+    let v = level.visible.walk in
+    let s = level.shadow.walk in
+    let x = from-stays old new v.reader v.run v.at stays (subst (λ (l : ℕ). new.spent.lasts (By v.reader l) ≡ old.spent.lasts (By v.reader l)) (sym at.visible_at) (h v.reader)) in
+    let y = from-stays old new s.reader s.run s.at stays (subst (λ (l : ℕ). new.spent.lasts (By s.reader l) ≡ old.spent.lasts (By s.reader l)) (sym at.shadow_at) (h s.reader)) in
     omega (arith, x, y)
 
 -- and so have levels
@@ -403,17 +358,14 @@ module _ (old one new : State) (first : one.held ≡ old.held) (second : new.hel
   pub alls-read : {T : Type 0} {held : Held} (k : List ℕ) (levels : List LevelWalks) (walk now : LevelWalks) (walks nows : List LevelWalks) (result : Result T ReadFault) → levels ≡ walk ∷ walks →
       PassesLevel held k walk now → ((n : ℕ) → ReadsAt n walk → LevelReadsOn old one n walk now) → OnOk result ((n : ℕ) → ReadFrom n walks → AllReadOn one new n walks nows) →
       OnOk result ((n : ℕ) → ReadFrom n levels → AllReadOn old new n levels (now ∷ nows))
-  alls-read k levels walk now walks nows (Ok answer) is p r s = λ n from.
+  alls-read k levels walk now walks nows result is p r = on_ok_weaker result (λ s n from.
       let at = subst (ReadFrom n) is from in
-      subst (λ (ls : List LevelWalks). AllReadOn old new n ls (now ∷ nows)) (sym is) (all-reads n walk now walks nows (reads-at_stays at.0 p) at.1 (r n at.0) (s (suc n) at.1))
-  alls-read k levels walk now walks nows (Err fault) is p r s = tt
+      subst (λ (ls : List LevelWalks). AllReadOn old new n ls (now ∷ nows)) (sym is) (all-reads n walk now walks nows (reads-at_stays at.0 p) at.1 (r n at.0) (s (suc n) at.1)))
 
 -- ---- walks that begin
 
 pub read-from : (held : Held) (n : ℕ) (levels : List LevelRuns) (walks : List LevelWalks) → StandFrom n levels → Each (BeginsLevel held) levels walks → ReadFrom n walks
 read-from held n [] [] at h = tt
-read-from held n [] (w ∷ walks) at h = absurd h
-read-from held n (l ∷ levels) [] at h = absurd h
 read-from held n (l ∷ levels) (w ∷ walks) at h = (
   record {
     visible_by = h.0.visible.reader_is;
@@ -423,29 +375,20 @@ read-from held n (l ∷ levels) (w ∷ walks) at h = (
   },
   read-from held (suc n) levels walks at.1 h.1,
 )
+read-from held n _ _ at h = absurd h
 
 stand-taken : (n i : ℕ) (levels : List LevelRuns) → StandFrom n levels → StandFrom n (take i levels)
-stand-taken n zero levels at = tt
-stand-taken n (suc i) [] at = tt
 stand-taken n (suc i) (l ∷ levels) at = (at.0, stand-taken (suc n) i levels at.1)
+stand-taken n _ _ at = tt
 
 pub stands-at : (n i : ℕ) (levels : List LevelRuns) (level : LevelRuns) → i < length levels → level ≡ get_or levels i level → StandFrom n levels → StandsAt (n + i) level
 stands-at n i [] level l is at = absurd (omega (arith, l))
 stands-at n zero (x ∷ levels) level l is at = subst (λ (m : ℕ). StandsAt m level) (let e : n ≡ n + 0 = omega arith in e) (subst (StandsAt n) (sym is) at.0)
 stands-at n (suc i) (x ∷ levels) level l is at = subst (λ (m : ℕ). StandsAt m level) (let e : suc n + i ≡ n + suc i = omega arith in e) (stands-at (suc n) i levels level (omega (arith, l)) is at.1)
 
-blocks-append : (held : Held) (xs : List LevelRuns) (x : LevelRuns) → blocks_of held (xs ++ x ∷ []) ≡ blocks_of held xs + blocks_at held x
-blocks-append held [] x = omega arith
-blocks-append held (y ∷ xs) x = let r = blocks-append held xs x in omega (arith, r)
-
-left-append : (object : State) (xs : List LevelWalks) (x : LevelWalks) → all_left object (xs ++ x ∷ []) ≡ all_left object xs + level_left object x
-left-append object [] x = omega arith
-left-append object (y ∷ xs) x = let r = left-append object xs x in omega (arith, r)
-
 pub blocks-taken : (held : Held) (i : ℕ) (levels : List LevelRuns) → blocks_of held (take i levels) ≤ blocks_of held levels
-blocks-taken held zero levels = omega arith
-blocks-taken held (suc i) [] = omega arith
 blocks-taken held (suc i) (l ∷ levels) = let r = blocks-taken held i levels in omega (arith, r)
+blocks-taken held _ _ = omega arith
 
 -- one level more that was begun
 pub began-one : (old between new : State) (levels : List LevelRuns) (begun now : List LevelWalks) (i : ℕ) (level : LevelRuns) (walks : LevelWalks) → between.held ≡ old.held → new.held ≡ between.held →
@@ -454,8 +397,8 @@ pub began-one : (old between new : State) (levels : List LevelRuns) (begun now :
 began-one old between new levels begun now i level walks first second at l is many begins push h k =
     let w = subst (λ (o : Held). new.spent.turned + level_left new walks ≤ between.spent.turned + blocks_at o level) first h.blocks in
     let p = left-stays between new 0 begun second (read-from old.held 0 (take i levels) begun (stand-taken 0 i levels at) begins) (λ reader other low high. h.others_stay reader other (let z : other ≢ i = omega (arith, high, many) in z)) in
-    let q = left-append new begun walks in
-    let r = blocks-append old.held (take i levels) level in
+    let q = sum_append (all_left new) (level_left new) refl (λ y ys. refl) begun walks in
+    let r = sum_append (blocks_of old.held) (blocks_at old.held) refl (λ y ys. refl) (take i levels) level in
     let s = ap (all_left new) push in
     let t = ap (blocks_of old.held) (taken_next levels i level l is) in
     omega (arith, w, p, q, r, s, t, k)
@@ -465,53 +408,40 @@ began-one old between new levels begun now i level walks first second at l is ma
 at-level : (f : Feed) {P Q : ℕ → Type 0} → ((level : ℕ) → P level → Q level) → AtLevel f P → AtLevel f Q
 at-level (feed.Run run) g p = g run.level p
 at-level (feed.Sampled run) g p = g run.level p
-at-level (feed.One cell) g p = tt
-at-level feed.Nothing g p = tt
+at-level _ g p = tt
 
 any-level : (f : Feed) {P : ℕ → Type 0} → ((level : ℕ) → P level) → AtLevel f P
 any-level (feed.Run run) g = g run.level
 any-level (feed.Sampled run) g = g run.level
-any-level (feed.One cell) g = tt
-any-level feed.Nothing g = tt
-
-swap : (l m : ℕ) → l ≢ m → m ≢ l
-swap l m n e = n (sym e)
+any-level _ g = tt
 
 -- where no cell of one feed's level is read of another, none of the other's is read of the first
 away-both : (f g : Feed) → AtLevel f (λ level. IsAway level g) → AtLevel g (λ level. IsAway level f)
-away-both (feed.Run run) g h = at-level g (λ other n. swap run.level other n) h
-away-both (feed.Sampled run) g h = at-level g (λ other n. swap run.level other n) h
-away-both (feed.One cell) g h = any-level g (λ level. tt)
-away-both feed.Nothing g h = any-level g (λ level. tt)
+away-both (feed.Run run) g h = at-level g (λ other n e. n (sym e)) h
+away-both (feed.Sampled run) g h = at-level g (λ other n e. n (sym e)) h
+away-both _ g h = any-level g (λ level. tt)
 
 other-reader : (r s : Reader) (f : Feed) (level : ℕ) → r ≢ s → IsOther s f (By r level)
 other-reader r s (feed.Run run) level n = λ e. n (let same : r ≡ s = cc in same)
 other-reader r s (feed.Sampled run) level n = λ e. n (let same : r ≡ s = cc in same)
-other-reader r s (feed.One cell) level n = tt
-other-reader r s feed.Nothing level n = tt
+other-reader r s _ level n = tt
 
 other-level : (r s : Reader) (f : Feed) (level : ℕ) → IsAway level f → IsOther s f (By r level)
 other-level r s (feed.Run run) level n = λ e. n (let same : level ≡ run.level = cc in same)
 other-level r s (feed.Sampled run) level n = λ e. n (let same : level ≡ run.level = cc in same)
-other-level r s (feed.One cell) level n = tt
-other-level r s feed.Nothing level n = tt
+other-level r s _ level n = tt
 
-beside-own : (aim : Aim) (level : ℕ) → IsAway level aim.own → IsBeside aim (By Own level)
-beside-own aim level n = record { own = other-level Own Own aim.own level n; incoming = other-reader Own Incoming aim.incoming level (λ e. cc); sample = other-reader Own Sample aim.sample level (λ e. cc) }
-
-pub beside-incoming : (aim : Aim) (level : ℕ) → IsAway level aim.incoming → IsBeside aim (By Incoming level)
-beside-incoming aim level n =
-    record { own = other-reader Incoming Own aim.own level (λ e. cc); incoming = other-level Incoming Incoming aim.incoming level n; sample = other-reader Incoming Sample aim.sample level (λ e. cc) }
-
-beside-sample : (aim : Aim) (level : ℕ) → IsAway level aim.sample → IsBeside aim (By Sample level)
-beside-sample aim level n = record { own = other-reader Sample Own aim.own level (λ e. cc); incoming = other-reader Sample Incoming aim.incoming level (λ e. cc); sample = other-level Sample Sample aim.sample level n }
+-- a reader's buffer for a level that its feed is not read of is none of the merge's
+beside : (aim : Aim) (reader : Reader) (level : ℕ) → IsAway level (feed_of aim reader) → IsBeside aim (By reader level)
+beside aim Own level n = record { own = other-level Own Own aim.own level n; incoming = other-reader Own Incoming aim.incoming level (λ e. cc); sample = other-reader Own Sample aim.sample level (λ e. cc) }
+beside aim Incoming level n = record { own = other-reader Incoming Own aim.own level (λ e. cc); incoming = other-level Incoming Incoming aim.incoming level n; sample = other-reader Incoming Sample aim.sample level (λ e. cc) }
+beside aim Sample level n = record { own = other-reader Sample Own aim.own level (λ e. cc); incoming = other-reader Sample Incoming aim.incoming level (λ e. cc); sample = other-level Sample Sample aim.sample level n }
 
 -- a feed has the same blocks left where its buffer has the block that it had
 feed-stays : (d : ℕ) (x y : Lasts) (reader : Reader) (f : Feed) (at : ℕ) → AtLevel f (λ level. y (By reader level) ≡ x (By reader level)) → feed_left d y reader f at ≡ feed_left d x reader f at
 feed-stays d x y reader (feed.Run run) at e = ap (λ (last : Option Block). run_left (8 * 2 ^ d) last run (8 * 2 ^ d) run.len at) e
 feed-stays d x y reader (feed.Sampled run) at e = ap (λ (last : Option Block). run_left (8 * 2 ^ d) last run (2 ^ d) (run.len / 8) at) e
-feed-stays d x y reader (feed.One cell) at e = refl
-feed-stays d x y reader feed.Nothing at e = refl
+feed-stays d x y reader _ at e = refl
 
 -- a merge has the same blocks left where the cells stay and its buffers have the blocks that they had
 merge-stays : (aim : Aim) (old new : State) (m : Merger) → new.held ≡ old.held → AtLevel aim.own (λ level. new.spent.lasts (By Own level) ≡ old.spent.lasts (By Own level)) →
@@ -544,17 +474,17 @@ merge-reads {aim} old new m n i j given p = record {
 second-stays : {aim : Aim} (spread : IsSpread aim) {old new : State} {m n : Merger} (second : Merger) → MergeReadsOn aim old new m n → merge_blocks (by_others new) aim second ≡ merge_blocks (by_others old) aim second
 second-stays {aim} spread {old} {new} second h =
     merge-stays aim (by_others old) (by_others new) second h.stays
-    (at-level aim.own (λ level n. h.others_stay (By Incoming level) (beside-incoming aim level n)) spread.own_incoming)
-    (at-level aim.incoming (λ level n. h.others_stay (By Sample level) (beside-sample aim level n)) spread.incoming_sample)
-    (at-level aim.sample (λ level n. h.others_stay (By Own level) (beside-own aim level n)) spread.sample_own)
+    (at-level aim.own (λ level n. h.others_stay (By Incoming level) (beside aim Incoming level n)) spread.own_incoming)
+    (at-level aim.incoming (λ level n. h.others_stay (By Sample level) (beside aim Sample level n)) spread.incoming_sample)
+    (at-level aim.sample (λ level n. h.others_stay (By Own level) (beside aim Own level n)) spread.sample_own)
 
 -- and the first, while the second goes on
 first-stays : {aim : Aim} (spread : IsSpread aim) (old new : State) {m n : Merger} (first : Merger) → MergeReadsOn aim (by_others old) (by_others new) m n → merge_blocks new aim first ≡ merge_blocks old aim first
 first-stays {aim} spread old new first h =
     merge-stays aim old new first h.stays
-    (at-level aim.own (λ level n. h.others_stay (By Sample level) (beside-sample aim level n)) (away-both aim.sample aim.own spread.sample_own))
-    (at-level aim.incoming (λ level n. h.others_stay (By Own level) (beside-own aim level n)) (away-both aim.own aim.incoming spread.own_incoming))
-    (at-level aim.sample (λ level n. h.others_stay (By Incoming level) (beside-incoming aim level n)) (away-both aim.incoming aim.sample spread.incoming_sample))
+    (at-level aim.own (λ level n. h.others_stay (By Sample level) (beside aim Sample level n)) (away-both aim.sample aim.own spread.sample_own))
+    (at-level aim.incoming (λ level n. h.others_stay (By Own level) (beside aim Own level n)) (away-both aim.own aim.incoming spread.own_incoming))
+    (at-level aim.sample (λ level n. h.others_stay (By Incoming level) (beside aim Incoming level n)) (away-both aim.incoming aim.sample spread.incoming_sample))
 
 -- both went on, and turned to no more blocks than lie between
 pub record BothReadOn (aim : Aim) (old new : State) (first second now other : Merger) : Type 0 where
@@ -596,7 +526,7 @@ module _ {aim : Aim} {run : Run} {old between : State} (one : State) {m n o : Me
   pub merge-along : AlongReadsOn aim run old one m o at
   merge-along =
       let r = merge-reads between one n o j k given p in
-      let y = from-stays between one Incoming run at r.stays (r.others_stay (By Incoming run.level) (beside-incoming aim run.level away)) in
+      let y = from-stays between one Incoming run at r.stays (r.others_stay (By Incoming run.level) (beside aim Incoming run.level away)) in
       record { blocks = omega (arith, h.blocks, r.blocks, y) }
 
   pub run-along : {new : State} (cell : Cell) → Reads one new (By Incoming run.level) run.level run.slot at (Ok cell) → at < run.len → AlongReadsOn aim run old new m o (at + 1)
@@ -616,8 +546,7 @@ along-ends h = let w = h.blocks in omega (arith, w)
 feed-most : (object : State) (reader : Reader) (f : Feed) (at : ℕ) → feed_left object.held.fixed.doublings object.spent.lasts reader f at ≤ feed_blocks object.held f
 feed-most object reader (feed.Run run) at = let l = run-most object reader run at in omega (arith, l)
 feed-most object reader (feed.Sampled run) at = every-eighth object reader run at
-feed-most object reader (feed.One cell) at = omega arith
-feed-most object reader feed.Nothing at = omega arith
+feed-most object reader _ at = omega arith
 
 -- whatever was read last, and from whichever cursors on, a merge has no more blocks left than its feeds fill
 merge-most : (object : State) (aim : Aim) (m : Merger) → merge_blocks object aim m ≤ aim_blocks object.held aim
@@ -637,9 +566,7 @@ module _ (old one : State) (aim : Aim) (run : Run) (m n : Merger) (follows : Fol
   -- it has, and was compared with a second
   pub cut-compared : one.held ≡ old.held → (new : State) (second : Merger) (result : Result Bool ReadFault) → IsSpread aim → OnOk result (IsSpread aim → ComparesBlocks one new aim n second) →
       OnOk result (TurnsTo old new (2 * aim_blocks old.held aim + run_blocks old.held run))
-  cut-compared stays new second (Ok same) spread k =
-      let h = k spread in
+  cut-compared stays new second result spread =
       let l = merge-most old aim m in
       let o = subst (λ (o : Held). merge_blocks (by_others one) aim second ≤ aim_blocks o aim) stays (merge-most (by_others one) aim second) in
-      omega (arith, follows, h, l, o)
-  cut-compared stays new second (Err fault) spread k = tt
+      on_ok_weaker result (λ k. let h = k spread in omega (arith, follows, h, l, o))

@@ -1,68 +1,32 @@
 -- The test of the shadow of a level, by its phase.
-use Rattle.std.proofs.Common.{◌≡◌, inl, inr, ℕ, suc, ◌+◌, ◌*◌, ◌/◌, ◌^◌, ◌<◌, ◌≤◌, Bool, true, false, cond, List, [], ◌∷◌, refl, ap, subst, ◌∙◌, arith, ◌≢◌, ◌↔◌, zero, ◌-◌, IsTrue, drop, Result, Ok}
-use Rattle.std.proofs.Common.{Err, IfOk, IfErr, sym, ◌==◌, not, Option, None, Some, if◌then◌else◌, length}
-use Rattle.std.specs.List.{AllByRecursion}
-use Rattle.std.specs.List.Sorted.{IsStrictlySortedBy}
-use Rattle.std.proofs.lemmas.Bool.{cases_lt, eq-eqb, ne_eqb}
-use Rattle.std.proofs.lemmas.List.{drop_all}
-use Rattle.std.specs.Prelude.{IfSome}
-use Rattle.std.specs.Option.{option_to_list}
-use Rattle.std.proofs.Math.Path.{transport}
-use Rattle.cola_runs.specs.Cells.{IsWellFormed, IsRising, sample}
-use Rattle.cola_runs.specs.Weave.{Part, IsCut, bottom_items}
-use Rattle.cola_laws.specs.Chain.{next_runs, first_keys, part_of as chain_part, upper_part}
+use Rattle.std.proofs.Common.{◌≡◌, inl, inr, ℕ, suc, ◌+◌, ◌*◌, ◌/◌, ◌^◌, ◌<◌, ◌≤◌, Bool, true, false, cond, List, [], ◌∷◌, refl, ap, subst, ◌∙◌, arith, ◌≢◌, ◌↔◌, zero, ◌-◌, IsTrue, drop, Result, Ok, Err, IfOk, IfErr, sym, ◌==◌}
+use Rattle.std.proofs.Common.{not, Option, None, Some, if◌then◌else◌, length, eq-eqb, ne_eqb, IfSome, option_to_list}
+use Rattle.cola_check.proofs.Common.{AllByRecursion, IsStrictlySortedBy, cases_lt, transport, IfOk-weaker, IsWellFormed, IsRising, sample, next_runs, first_keys, upper_part, Run, ReadFault, Device, BadCell, Held, LawCell, Stamped}
+use Rattle.cola_check.proofs.Common.{key_cmp, slot_size, told_is_good, run_cells, cell_at, period, is_odd, visible_slot, works, is_over, window_step, is_over-suc, works-not_over, over-not_works, marks-each, Header, all_numbers}
+use Rattle.cola_check.proofs.Common.{next_power, power-le, end-nothing, HasRun, Aim, cells_read, part_of, IsSource, IsFeedTold, IsFeed, feed_len, feed_keys, Feed, FileLevel, level_at, below_at, AreCellsTold, HasSample}
+use Rattle.cola_check.proofs.Common.{HasFewItems, Tested, ShadowAt, OrderAt, EachLevel, shadow_cell, no-order, Order, Sample, Length, Shadow, Verdict, Broken, IsVerdict, tested_by, visible_of, shadow_of, numbers_at, IsRunTold}
+use Rattle.cola_check.proofs.Common.{HasBadIn, HasBadRun, PassCause, next_of, IsReached, upper_aim, lowest_aim, IsAimAt, cursors_of, CutAt, IsNext, FitAt, FinishedAt, HasLevels, TestCause, FindsFlaw, shadow_ticks, Cursors}
+use Rattle.cola_check.proofs.Common.{run_blocks, shadow_blocks, blocks_below, CutFits, CutsAfter, runs_of_aim, aim_blocks, AtLevel, IsAway, by_bool, Few, RunTests, AreInOrder, IsCarried, AreCarried, AreFewAt, AreBothTold, OrderIs}
+use Rattle.cola_check.proofs.Common.{IsFew, lists_below, sample_len}
+use Rattle.cola_runs.specs.Weave.{Part, IsCut}
+use Rattle.cola_laws.specs.Chain.{part_of as chain_part}
 use Rattle.cola_laws.specs.Sound.{IsVisible, IsUpperRun, IsBottomRun}
 use Rattle.cola_laws.proofs.Sources.{sample-sorted}
-use Rattle.cola_cell.specs.declared.cell.Run.{Run}
-use Rattle.cola_cell.specs.declared.fault.ReadFault.{ReadFault}
-use Rattle.cola_cell.specs.declared.fault.ReadFault.TheVariants.{Device, BadCell}
-use Rattle.cola_cell.specs.Held.{Held, LawCell, Stamped}
-use Rattle.cola_cell.specs.Order.{key_cmp}
-use Rattle.cola_cell.specs.Places.{slot_size}
-use Rattle.cola_cell.proofs.RunLemmas.{told_is_good}
-use Rattle.cola_cell.specs.ToldCells.{run_cells, cell_at}
-use Rattle.cola_clock.specs.Clock.{period, is_odd, visible_slot, works, is_over, window_step}
-use Rattle.cola_clock.proofs.Laws.{is_over-suc, works-not_over, over-not_works}
-use Rattle.cola_clock.proofs.MarkLaws.{marks-each}
-use Rattle.cola_clock.specs.Marks.{Marks, sample_end, no_marks}
+use Rattle.cola_clock.specs.Marks.{sample_end, no_marks}
 use Rattle.cola_clock.specs.Schedule.{phase_at}
+use Rattle.cola_clock.specs.declared.state.Phase.{Phase}
 use Rattle.cola_clock.specs.declared.state.Phase.TheVariants.{Before, Inside, After}
-use Rattle.cola_layout.specs.declared.header.Header.{Header}
-use Rattle.cola_layout.specs.Marks.{all_numbers}
-use Rattle.cola_layout.proofs.Powers.{next_power, power-le}
-use Rattle.cola_layout.proofs.Levels.{numbers-length}
-use Rattle.cola_look.specs.Runs.{HasRun}
-use Rattle.cola_merge.specs.declared.aims.Aim.{Aim}
-use Rattle.cola_merge.specs.Advance.{cells_read}
-use Rattle.cola_merge.specs.Feeds.{part_of, IsSource, IsFeedTold}
 use Rattle.cola_merge.specs.Pulls.{AreInOrder as AreSourcesInOrder}
 use Rattle.cola_merge.proofs.ToldRuns.{sampled_feed}
-use Rattle.cola_merge.specs.declared.aims.Feed.TheVariants as feed
-use Rattle.cola_verdict.specs.Tests.{FileLevel, level_at, below_at, AreCellsTold, HasSample, HasFewItems, IsInOrder, Tested, ShadowAt, OrderAt, EachLevel, shadow_cell}
-use Rattle.cola_verdict.proofs.Prefixes.{no-order}
-use Rattle.cola_verdict.specs.declared.verdict.Flaw.TheVariants.{Cell, Order, Sample, Length, Shadow}
-use Rattle.cola_verdict.specs.declared.verdict.Verdict.{Verdict}
-use Rattle.cola_verdict.specs.declared.verdict.Verdict.TheVariants.{Broken}
-use Rattle.cola_verdict.specs.Verdict.{IsVerdict}
-use Rattle.cola_check.specs.Found.{tested_by, visible_of, shadow_of, numbers_at}
-use Rattle.cola_check.specs.Reading.{IsRunTold, HasBadIn, HasBadRun, PassCause}
-use Rattle.cola_check.specs.Shadows.{next_of, IsReached, upper_aim, lowest_aim, IsAimAt, cursors_of, CutAt, IsNext, FitAt, FinishedAt}
-use Rattle.cola_check.specs.Testing.{HasLevels, TestCause, FindsFlaw, shadow_ticks}
-use Rattle.cola_check.specs.declared.cut.Cursors.{Cursors}
-use Rattle.cola_check.specs.Blocks.{run_blocks, shadow_blocks}
-use Rattle.cola_check.specs.Cut.{CutFits, CutsAfter, runs_of_aim, aim_blocks}
-use Rattle.cola_check.specs.declared.visible.Few.{Few}
+use Rattle.cola_verdict.specs.Tests.{IsInOrder}
+use Rattle.cola_verdict.specs.declared.verdict.Flaw.TheVariants.{Cell}
 use Rattle.cola_check.specs.declared.visible.Few.TheVariants.{Cells}
-use Rattle.cola_check.specs.declared.visible.RunTests.{RunTests}
-use Rattle.cola_check.specs.Beside.{AreInOrder}
-use Rattle.cola_check.specs.Carrying.{IsCarried, AreCarried}
-use Rattle.cola_check.specs.Firsts.{AreFewAt}
-use Rattle.cola_check.specs.Prefix.{AreBothTold, OrderIs, IsFew, lists_below, sample_len}
 use Rattle.cola_check.proofs.BadRuns.{level-in}
-use Rattle.cola_check.proofs.Levels.{levels, slot-in, other-in, visible-is, shadow-is, visible-told, shadow-told, below-next, below-none, own-is, incoming-is, sampled-is, drop-at, of-next}
-use Rattle.cola_check.proofs.FileBlocks.{upper-cut, lowest-cut}
+use Rattle.cola_check.proofs.Levels.{levels, slot-in, other-in, visible-is, shadow-is, visible-told, shadow-told, below-next, below-none, level-is, drop-at, of-next, none-sorted, by-place}
+use Rattle.cola_check.proofs.FileBlocks.{any-cut, next-blocks, finished-blocks}
 use Rattle.cola_check.proofs.LeastKeys.{key_total}
 use Rattle.cola_check.proofs.Carrying.{is_none, carried_by_part, part_carried}
+use Rattle.cola_merge.specs.declared.aims.Feed.TheVariants as feed
 
 -- ---- bad cells
 
@@ -128,24 +92,17 @@ module _ (header : Header) where
     first-of true shadow visible xs ys = refl
     first-of false shadow visible xs ys = refl
 
-    cells-of : (odd : Bool) (level : ℕ) → level < header.geometry.bottom →
-        cond odd (level_at (levels header held) (suc level)).shadow (level_at (levels header held) (suc level)).visible ≡ run_cells held (cond odd (shadow_of header (suc level)) (visible_of header (suc level)))
-    cells-of true level low = shadow-is header held (suc level) (omega (arith, low))
-    cells-of false level low = visible-is header held (suc level) (omega (arith, low))
-
     pub next-keys : (level : ℕ) → level < header.geometry.bottom → first_keys (next_runs header.clock level (below_at (levels header held) level)) ≡ sample (run_cells held (next_of header level))
     next-keys level low =
         ap (λ (below : List FileLevel). first_keys (next_runs header.clock level below)) (below-next header held level low)
         ∙ first-of (is_odd (period header.clock level)) (level_at (levels header held) (suc level)).shadow (level_at (levels header held) (suc level)).visible _ _
-        ∙ ap sample (cells-of (is_odd (period header.clock level)) level low)
-
-    none-of : (odd : Bool) → first_keys {K = List ℕ} {V = Stamped} (cond odd [] []) ≡ []
-    none-of true = refl
-    none-of false = refl
+        ∙ ap sample (by_bool (λ odd. cond odd (level_at (levels header held) (suc level)).shadow (level_at (levels header held) (suc level)).visible ≡ run_cells held (cond odd (shadow_of header (suc level)) (visible_of header (suc level))))
+        (shadow-is header held (suc level) (omega (arith, low))) (visible-is header held (suc level) (omega (arith, low))) (is_odd (period header.clock level)))
 
     pub no-keys : (level : ℕ) → header.geometry.bottom ≤ level → first_keys (next_runs header.clock level (below_at (levels header held) level)) ≡ []
     no-keys level low =
-        ap (λ (below : List FileLevel). first_keys (next_runs header.clock level below)) (below-none header held level low) ∙ none-of (is_odd (period header.clock level))
+        ap (λ (below : List FileLevel). first_keys (next_runs header.clock level below)) (below-none header held level low)
+        ∙ by_bool (λ odd. first_keys {K = List ℕ} {V = Stamped} (cond odd [] []) ≡ []) refl refl (is_odd (period header.clock level))
 
     -- ---- where the tests of the levels below passed
 
@@ -176,14 +133,6 @@ same-cut : {p q : Part} {own own' incoming incoming' done done' : List LawCell} 
     CutOf p own incoming keys a b c done → CutOf q own' incoming' keys' a' b' c' done'
 same-cut ep eo ei ek ea eb ec ed h = transport (λ i. CutOf (ep i) (eo i) (ei i) (ek i) (ea i) (eb i) (ec i) (ed i)) h
 
-upper-part : (odd : Bool) (own above next : Run) → part_of (upper_aim odd own above next) ≡ upper_part odd
-upper-part true own above next = refl
-upper-part false own above next = refl
-
-none-sorted : IsStrictlySortedBy key_cmp []
-unfolding IsStrictlySortedBy
-none-sorted = tt
-
 module _ (header : Header) (i : ℕ) (low : suc i ≤ header.geometry.bottom) where
   abbrev odd : Bool
   odd = is_odd (period header.clock (suc i))
@@ -195,38 +144,28 @@ module _ (header : Header) (i : ℕ) (low : suc i ≤ header.geometry.bottom) wh
   by-aim : (P : Aim → Type 0) (aim : Aim) → IsAimAt header (suc i) aim → (suc i < header.geometry.bottom → P (upper_aim odd (visible_of header (suc i)) (visible_of header i) (next_of header (suc i)))) →
       (header.geometry.bottom ≤ suc i → P (lowest_aim (visible_of header (suc i)) (visible_of header i))) → P aim
   by-aim P aim is upper lowest =
-      elim (cases_lt (suc i) header.geometry.bottom) [
-        | inl above ↦ subst P (sym (is.above above)) (subst (λ (n : ℕ). P (upper_aim odd (visible_of header (suc i)) (visible_of header n) (next_of header (suc i)))) number-above (upper above))
-        | inr bottom ↦ subst P (sym (is.bottom bottom)) (subst (λ (n : ℕ). P (lowest_aim (visible_of header (suc i)) (visible_of header n))) number-above (lowest bottom))
-      ]
+      by-place header (suc i) P is.above is.bottom (λ above. subst (λ (n : ℕ). P (upper_aim odd (visible_of header (suc i)) (visible_of header n) (next_of header (suc i)))) number-above (upper above))
+      (λ bottom. subst (λ (n : ℕ). P (lowest_aim (visible_of header (suc i)) (visible_of header n))) number-above (lowest bottom))
 
   -- two passes over the sources and one over the shadow
-  pub cut-ticks : (aim : Aim) (shadow : Run) → IsAimAt header (suc i) aim → shadow ≡ shadow_of header (suc i) → 2 * cells_read aim + shadow.len ≤ 18 * 2 ^ suc i
-  cut-ticks aim shadow is same =
+  cut-ticks : (aim : Aim) → IsAimAt header (suc i) aim → 2 * cells_read aim + (shadow_of header (suc i)).len ≤ 18 * 2 ^ suc i
+  cut-ticks aim is =
       let own = visible-fits header (suc i) low in
       let above = visible-fits header i (omega (arith, low)) in
-      let done : shadow.len ≤ 2 ^ (suc i + 2) = subst (λ (r : Run). r.len ≤ 2 ^ (suc i + 2)) (sym same) (shadow-fits header (suc i) low) in
+      let done = shadow-fits header (suc i) low in
       let four = slot-is header (suc i) in
       let more = slot-is header i in
       let two = twice header i in
-      by-aim (λ a. 2 * cells_read a + shadow.len ≤ 18 * 2 ^ suc i) aim is
+      by-aim (λ a. 2 * cells_read a + (shadow_of header (suc i)).len ≤ 18 * 2 ^ suc i) aim is
       (λ upper. let few = next-few header (suc i) upper in omega (arith, own, above, done, four, more, two, few))
       (λ lowest. omega (arith, own, above, done, four, more, two))
 
   -- ---- the cursors are within their sources
 
-  sample-of : (o : Bool) (m : Marks) (shadow visible : Run) → shadow.len ≡ m.shadow → visible.len ≡ m.visible → (cond o shadow visible).len / 8 ≡ cond o m.shadow m.visible / 8
-  sample-of true m shadow visible s v = ap (λ (n : ℕ). n / 8) s
-  sample-of false m shadow visible s v = ap (λ (n : ℕ). n / 8) v
-
   sample-ends : suc i < header.geometry.bottom → sample_end odd (drop (suc (suc i)) (all_numbers header.levels.items)) ≡ (next_of header (suc i)).len / 8
   sample-ends above =
       ap (sample_end odd) (drop-at no_marks (all_numbers header.levels.items) (suc (suc i)) (level-in header (suc (suc i)) (omega (arith, above))))
-      ∙ sym (sample-of odd (numbers_at header (suc (suc i))) (shadow_of header (suc (suc i))) (visible_of header (suc (suc i))) refl refl)
-
-  sample-none : header.geometry.bottom ≤ suc i → sample_end odd (drop (suc (suc i)) (all_numbers header.levels.items)) ≡ 0
-  sample-none bottom =
-      ap (sample_end odd) (drop_all (suc (suc i)) (all_numbers header.levels.items) (let size = numbers-length header.levels.items in let one = header.one_each in omega (arith, size, one, bottom)))
+      ∙ by_bool (λ o. cond o (numbers_at header (suc (suc i))).shadow (numbers_at header (suc (suc i))).visible / 8 ≡ (cond o (shadow_of header (suc (suc i))) (visible_of header (suc (suc i)))).len / 8) refl refl odd
 
   source : (held : Held) (run : Run) → HasRun held run → IsSource held.fixed run
   source held run has = record { level_in = has.level_in; slot_in = has.slot_in; within = has.within }
@@ -241,102 +180,62 @@ module _ (header : Header) (i : ℕ) (low : suc i ≤ header.geometry.bottom) wh
     next-apart : (level : ℕ) → level < suc (suc i) → level ≢ (next_of header (suc i)).level
     next-apart level h e = let n = next-level in omega (arith, h, e, n)
 
-    next-away : (next_of header (suc i)).level ≢ suc i
-    next-away e = let n = next-level in omega (arith, e, n)
-
-    upper-fits : suc i < header.geometry.bottom → CutFits held (upper_aim odd (visible_of header (suc i)) (visible_of header i) (next_of header (suc i))) (cursors_of (numbers_at header (suc i))) (shadow_of header (suc i))
-    upper-fits above =
+    -- whatever the sample is, if its level is no other's
+    aim-fits : (a : Aim) (s : Feed) → IsFeed held.fixed s → sample_end odd (drop (suc (suc i)) (all_numbers header.levels.items)) ≡ feed_len s → IsAway i s → AtLevel s (λ level. level ≢ suc i) →
+        CutFits held (record a { own = feed.Run (visible_of header (suc i)); incoming = feed.Run (visible_of header i); sample = s }) (cursors_of (numbers_at header (suc i))) (shadow_of header (suc i))
+    aim-fits a s fits ends above own =
         let m = (marks-each header.clock (all_numbers header.levels.items) header.marks_fit (suc i) (level-in header (suc i) low)).inside (omega arith) inside in
         record {
           own = source held _ (visible-has header held (suc i) has low);
           incoming = source held _ (visible-has header held i has (omega (arith, low)));
-          sample = source held _ (next-has header held (suc i) has above);
+          sample = fits;
           run = shadow-has header held (suc i) has low;
           own_within = m.own_within;
           incoming_within = m.incoming_within;
-          sample_within = subst (λ (n : ℕ). (numbers_at header (suc i)).sampled ≤ n) (sample-ends above) m.sampled_within;
-          spread = record { own_incoming = one-apart; incoming_sample = next-apart i (omega arith); sample_own = next-away };
+          sample_within = subst (λ (n : ℕ). (numbers_at header (suc i)).sampled ≤ n) ends m.sampled_within;
+          spread = record { own_incoming = one-apart; incoming_sample = above; sample_own = own };
           shadow_away = one-apart;
         }
 
-    lowest-fits : header.geometry.bottom ≤ suc i → CutFits held (lowest_aim (visible_of header (suc i)) (visible_of header i)) (cursors_of (numbers_at header (suc i))) (shadow_of header (suc i))
-    lowest-fits bottom =
-        let m = (marks-each header.clock (all_numbers header.levels.items) header.marks_fit (suc i) (level-in header (suc i) low)).inside (omega arith) inside in
-        record {
-          own = source held _ (visible-has header held (suc i) has low);
-          incoming = source held _ (visible-has header held i has (omega (arith, low)));
-          sample = tt;
-          run = shadow-has header held (suc i) has low;
-          own_within = m.own_within;
-          incoming_within = m.incoming_within;
-          sample_within = subst (λ (n : ℕ). (numbers_at header (suc i)).sampled ≤ n) (sample-none bottom) m.sampled_within;
-          spread = record { own_incoming = one-apart; incoming_sample = tt; sample_own = tt };
-          shadow_away = one-apart;
-        }
-
-    pub cut-fits : (aim : Aim) (cursors : Cursors) (shadow : Run) → IsAimAt header (suc i) aim → cursors ≡ cursors_of (numbers_at header (suc i)) → shadow ≡ shadow_of header (suc i) → CutFits held aim cursors shadow
-    cut-fits aim cursors shadow is at same =
-        transport (λ j. CutFits held aim (sym at j) (sym same j))
-        (by-aim (λ a. CutFits held a (cursors_of (numbers_at header (suc i))) (shadow_of header (suc i))) aim is upper-fits lowest-fits)
+    cut-fits : (aim : Aim) → IsAimAt header (suc i) aim → CutFits held aim (cursors_of (numbers_at header (suc i))) (shadow_of header (suc i))
+    cut-fits aim is =
+        by-aim (λ a. CutFits held a (cursors_of (numbers_at header (suc i))) (shadow_of header (suc i))) aim is
+        (λ above. aim-fits (upper_aim odd (visible_of header (suc i)) (visible_of header i) (next_of header (suc i))) _ (source held _ (next-has header held (suc i) has above)) (sample-ends above) (next-apart i (omega arith)) (λ e. next-apart (suc i) (omega arith) (sym e)))
+        (λ bottom. aim-fits (lowest_aim (visible_of header (suc i)) (visible_of header i)) feed.Nothing tt (end-nothing header.clock (suc i) header.levels.items (let one = header.one_each in omega (arith, one, bottom))) tt tt)
 
   -- how many blocks the test turns to
-  pub cut-blocks : (held : Held) (aim : Aim) (shadow : Run) → IsAimAt header (suc i) aim → shadow ≡ shadow_of header (suc i) → 2 * aim_blocks held aim + run_blocks held shadow ≤ shadow_blocks header held (suc i)
-  cut-blocks held aim shadow is same =
-      subst (λ (r : Run). 2 * aim_blocks held aim + run_blocks held r ≤ shadow_blocks header held (suc i)) (sym same)
-      (by-aim (λ a. 2 * aim_blocks held a + run_blocks held (shadow_of header (suc i)) ≤ shadow_blocks header held (suc i)) aim is (upper-cut header held i) (λ bottom. lowest-cut header held i))
+  cut-blocks : (held : Held) (aim : Aim) → IsAimAt header (suc i) aim → 2 * aim_blocks held aim + run_blocks held (shadow_of header (suc i)) ≤ shadow_blocks header held (suc i)
+  cut-blocks held aim is =
+      by-aim (λ a. 2 * aim_blocks held a + run_blocks held (shadow_of header (suc i)) ≤ shadow_blocks header held (suc i)) aim is
+      (λ above. any-cut header held i _ (next-blocks header held (suc i) above)) (λ bottom. any-cut header held i 0 (omega arith))
 
   -- ---- the sources are told and in order
 
   module _ (held : Held) where
-    abbrev AreTold : Type 0
-    AreTold = AreCellsTold (tested_by header held)
-
-    own-told : AreTold → IsRunTold held (visible_of header (suc i))
-    own-told t = visible-told header held (suc i) low t
-
-    above-told : AreTold → IsRunTold held (visible_of header i)
-    above-told t = visible-told header held i (omega (arith, low)) t
-
-    sampled-told : (run : Run) → IsRunTold held run → IsFeedTold held (feed.Sampled run)
-    sampled-told run t = λ k h. t (8 * k + 7) (omega (arith, h))
-
-    upper-order : suc i < header.geometry.bottom → IsReached (tested_by header held) (suc i) → AreSourcesInOrder held (upper_aim odd (visible_of header (suc i)) (visible_of header i) (next_of header (suc i)))
-    upper-order above reached = record {
-      feeds = record { own = own-told reached.told; incoming = above-told reached.told; sample = sampled-told (next_of header (suc i)) (next-told header held (suc i) above reached.told) };
+    -- whatever the sample is, if its keys rise
+    order-with : (a : Aim) (s : Feed) → IsReached (tested_by header held) (suc i) → IsFeedTold held s → IsStrictlySortedBy key_cmp (feed_keys held s) →
+        AreSourcesInOrder held (record a { own = feed.Run (visible_of header (suc i)); incoming = feed.Run (visible_of header i); sample = s })
+    order-with a s reached told rise = record {
+      feeds = record { own = visible-told header held (suc i) low reached.told; incoming = visible-told header held i (omega (arith, low)) reached.told; sample = told };
       own_rises = visible-rises header held (suc i) low reached (suc i) low;
       incoming_rises = visible-rises header held (suc i) low reached i (omega (arith, low));
-      keys_rise = subst (IsStrictlySortedBy key_cmp) (sym (sampled_feed held (next_of header (suc i)))) (sample-sorted key_total (run_cells held (next_of header (suc i))) (next-rises header held (suc i) above reached));
-    }
-
-    lowest-order : header.geometry.bottom ≤ suc i → IsReached (tested_by header held) (suc i) → AreSourcesInOrder held (lowest_aim (visible_of header (suc i)) (visible_of header i))
-    lowest-order bottom reached = record {
-      feeds = record { own = own-told reached.told; incoming = above-told reached.told; sample = λ k h. absurd (omega (arith, h)) };
-      own_rises = visible-rises header held (suc i) low reached (suc i) low;
-      incoming_rises = visible-rises header held (suc i) low reached i (omega (arith, low));
-      keys_rise = none-sorted;
+      keys_rise = rise;
     }
 
     in-order : (aim : Aim) → IsAimAt header (suc i) aim → IsReached (tested_by header held) (suc i) → AreSourcesInOrder held aim
-    in-order aim is reached = by-aim (AreSourcesInOrder held) aim is (λ above. upper-order above reached) (λ bottom. lowest-order bottom reached)
+    in-order aim is reached =
+        by-aim (AreSourcesInOrder held) aim is
+        (λ above. order-with (upper_aim odd (visible_of header (suc i)) (visible_of header i) (next_of header (suc i))) _ reached (λ k h. next-told header held (suc i) above reached.told (8 * k + 7) (omega (arith, h)))
+        (subst (IsStrictlySortedBy key_cmp) (sym (sampled_feed held (next_of header (suc i)))) (sample-sorted key_total (run_cells held (next_of header (suc i))) (next-rises header held (suc i) above reached))))
+        (λ bottom. order-with (lowest_aim (visible_of header (suc i)) (visible_of header i)) feed.Nothing reached (λ k h. absurd (omega (arith, h))) (none-sorted _))
 
-    runs-told : (aim : Aim) (shadow : Run) → IsAimAt header (suc i) aim → shadow ≡ shadow_of header (suc i) → AreTold → AllByRecursion (IsRunTold held) (shadow ∷ runs_of_aim aim)
-    runs-told aim shadow is same t = (
-      subst (IsRunTold held) (sym same) (shadow-told header held (suc i) low t),
-      by-aim (λ a. AllByRecursion (IsRunTold held) (runs_of_aim a)) aim is
-          (λ above. (own-told t, (above-told t, (next-told header held (suc i) above t, tt))))
-          (λ bottom. (own-told t, (above-told t, tt))),
-    )
-
-    pub cut-cause : (aim : Aim) (shadow : Run) → IsAimAt header (suc i) aim → shadow ≡ shadow_of header (suc i) → (before now : ℕ) {T : Type 0} (answer : Result T ReadFault) → IfErr answer (PassCause held (shadow ∷ runs_of_aim aim) before now) → IfErr answer (TestCause header held before now)
-    cut-cause aim shadow is same before now = cause-of-test header held (shadow ∷ runs_of_aim aim) (runs-told aim shadow is same) before now
+    runs-told : (aim : Aim) → IsAimAt header (suc i) aim → AreCellsTold (tested_by header held) → AllByRecursion (IsRunTold held) (shadow_of header (suc i) ∷ runs_of_aim aim)
+    runs-told aim is t =
+        let own = visible-told header held (suc i) low t in
+        let incoming = visible-told header held i (omega (arith, low)) t in
+        (shadow-told header held (suc i) low t, by-aim (λ a. AllByRecursion (IsRunTold held) (runs_of_aim a)) aim is (λ above. (own, (incoming, (next-told header held (suc i) above t, tt)))) (λ bottom. (own, (incoming, tt))))
 
     -- ---- the cut of the aim is that of the level
-
-    upper-at : suc i < header.geometry.bottom → chain_part odd (below_at (levels header held) (suc i)) ≡ upper_part odd
-    upper-at above = ap (λ (below : List FileLevel). chain_part odd below) (below-next header held (suc i) above)
-
-    lowest-at : header.geometry.bottom ≤ suc i → chain_part odd (below_at (levels header held) (suc i)) ≡ bottom_items
-    lowest-at bottom = ap (λ (below : List FileLevel). chain_part odd below) (below-none header held (suc i) bottom)
 
     abbrev cursors_here : Cursors
     cursors_here = cursors_of (numbers_at header (suc i))
@@ -349,55 +248,49 @@ module _ (header : Header) (i : ℕ) (low : suc i ≤ header.geometry.bottom) wh
         let v = visible-is header held (suc i) low in
         let a = visible-is header held i (omega (arith, low)) in
         let s = shadow-is header held (suc i) low in
-        let own = own-is header held (suc i) low in
-        let incoming = incoming-is header held (suc i) low in
-        let sampled = sampled-is header held (suc i) low in
+        let is = level-is header held (suc i) low in
+        let own = ap (λ (l : FileLevel). l.own) is in
+        let incoming = ap (λ (l : FileLevel). l.incoming) is in
+        let sampled = ap (λ (l : FileLevel). l.sampled) is in
         (λ h. same-cut ep (sym v) (sym a) ek (sym own) (sym incoming) (sym sampled) (sym s) h, λ h. same-cut (sym ep) v a (sym ek) own incoming sampled s h)
 
     cuts-at : (aim : Aim) → IsAimAt header (suc i) aim → CutsAfter held aim cursors_here (run_cells held (shadow_of header (suc i))) ↔ CutAt (tested_by header held) (suc i)
     cuts-at aim is =
         by-aim (λ a. CutsAfter held a cursors_here (run_cells held (shadow_of header (suc i))) ↔ CutAt (tested_by header held) (suc i)) aim is
-        (λ above. both-ways _ _ (upper-part odd (visible_of header (suc i)) (visible_of header i) (next_of header (suc i)) ∙ sym (upper-at above)) (sampled_feed held (next_of header (suc i)) ∙ sym (next-keys header held (suc i) above)))
-        (λ bottom. both-ways _ _ (sym (lowest-at bottom)) (sym (no-keys header held (suc i) bottom)))
+        (λ above. both-ways _ _ (by_bool (λ o. part_of (upper_aim o (visible_of header (suc i)) (visible_of header i) (next_of header (suc i))) ≡ upper_part o) refl refl odd ∙ sym (ap (λ (below : List FileLevel). chain_part odd below) (below-next header held (suc i) above)))
+        (sampled_feed held (next_of header (suc i)) ∙ sym (next-keys header held (suc i) above)))
+        (λ bottom. both-ways _ _ (sym (ap (λ (below : List FileLevel). chain_part odd below) (below-none header held (suc i) bottom))) (sym (no-keys header held (suc i) bottom)))
 
-    pub cut-answer : (aim : Aim) (cursors : Cursors) (shadow : Run) → IsAimAt header (suc i) aim → cursors ≡ cursors_of (numbers_at header (suc i)) → shadow ≡ shadow_of header (suc i) → (answer : Result Bool ReadFault) →
-        (AreSourcesInOrder held aim → IsRunTold held shadow → IfOk answer (λ cut. IsTrue cut ↔ CutsAfter held aim cursors (run_cells held shadow))) →
+    cut-answer : (aim : Aim) → IsAimAt header (suc i) aim → (answer : Result Bool ReadFault) →
+        (AreSourcesInOrder held aim → IsRunTold held (shadow_of header (suc i)) → IfOk answer (λ cut. IsTrue cut ↔ CutsAfter held aim cursors_here (run_cells held (shadow_of header (suc i))))) →
         IfOk answer (λ cut. IsReached (tested_by header held) (suc i) → (IsTrue cut ↔ CutAt (tested_by header held) (suc i)))
-    cut-answer aim cursors shadow is at same (Err fault) h = tt
-    cut-answer aim cursors shadow is at same (Ok cut) h = λ reached.
-        let c : IsTrue cut ↔ CutsAfter held aim cursors (run_cells held shadow) = h (in-order aim is reached) (subst (IsRunTold held) (sym same) (shadow-told header held (suc i) low reached.told)) in
-        let d : IsTrue cut ↔ CutsAfter held aim cursors_here (run_cells held (shadow_of header (suc i))) =
-        subst (λ (r : Run). IsTrue cut ↔ CutsAfter held aim cursors_here (run_cells held r)) same (subst (λ (k : Cursors). IsTrue cut ↔ CutsAfter held aim k (run_cells held shadow)) at c) in
+    cut-answer aim is (Err fault) h = tt
+    cut-answer aim is (Ok cut) h = λ reached.
+        let c : IsTrue cut ↔ CutsAfter held aim cursors_here (run_cells held (shadow_of header (suc i))) = h (in-order aim is reached) (shadow-told header held (suc i) low reached.told) in
         let e = cuts-at aim is in
-        (λ t. e.0 (d.0 t), λ t. d.1 (e.1 t))
+        (λ t. e.0 (c.0 t), λ t. c.1 (e.1 t))
 
 -- ---- the same of a level of 1 and more
 
-pub ticks-at : (header : Header) (level : ℕ) → 1 ≤ level → level ≤ header.geometry.bottom → (aim : Aim) (shadow : Run) → IsAimAt header level aim → shadow ≡ shadow_of header level → 2 * cells_read aim + shadow.len ≤ 18 * 2 ^ level
-ticks-at header zero one low = absurd (omega (arith, one))
-ticks-at header (suc i) one low = cut-ticks header i low
+-- what the test of a cut costs and asks, why it is refused, and what it answers
+pub record CutAsks (header : Header) (held : Held) (level : ℕ) (aim : Aim) (cursors : Cursors) (shadow : Run) : Type 0 where
+  pub ticks : 2 * cells_read aim + shadow.len ≤ 18 * 2 ^ level
+  pub blocks : 2 * aim_blocks held aim + run_blocks held shadow ≤ shadow_blocks header held level
+  pub fits : HasLevels header held → works header.clock level ≡ true → CutFits held aim cursors shadow
+  pub cause : (before now : ℕ) (answer : Result Bool ReadFault) → IfErr answer (PassCause held (shadow ∷ runs_of_aim aim) before now) → IfErr answer (TestCause header held before now)
+  pub answer : (answer : Result Bool ReadFault) → (AreSourcesInOrder held aim → IsRunTold held shadow → IfOk answer (λ cut. IsTrue cut ↔ CutsAfter held aim cursors (run_cells held shadow))) →
+      IfOk answer (λ cut. IsReached (tested_by header held) level → (IsTrue cut ↔ CutAt (tested_by header held) level))
 
-pub blocks-at : (header : Header) (held : Held) (level : ℕ) → 1 ≤ level → level ≤ header.geometry.bottom → (aim : Aim) (shadow : Run) → IsAimAt header level aim → shadow ≡ shadow_of header level →
-    2 * aim_blocks held aim + run_blocks held shadow ≤ shadow_blocks header held level
-blocks-at header held zero one low = absurd (omega (arith, one))
-blocks-at header held (suc i) one low = cut-blocks header i low held
-
-pub fits-at : (header : Header) (held : Held) (level : ℕ) → 1 ≤ level → level ≤ header.geometry.bottom → HasLevels header held → works header.clock level ≡ true →
-    (aim : Aim) (cursors : Cursors) (shadow : Run) → IsAimAt header level aim → cursors ≡ cursors_of (numbers_at header level) → shadow ≡ shadow_of header level → CutFits held aim cursors shadow
-fits-at header held zero one low = absurd (omega (arith, one))
-fits-at header held (suc i) one low = cut-fits header i low held
-
-pub cause-at : (header : Header) (held : Held) (level : ℕ) → 1 ≤ level → level ≤ header.geometry.bottom → (aim : Aim) (shadow : Run) → IsAimAt header level aim → shadow ≡ shadow_of header level →
-    (before now : ℕ) {T : Type 0} (answer : Result T ReadFault) → IfErr answer (PassCause held (shadow ∷ runs_of_aim aim) before now) → IfErr answer (TestCause header held before now)
-cause-at header held zero one low = absurd (omega (arith, one))
-cause-at header held (suc i) one low = cut-cause header i low held
-
-pub answer-at : (header : Header) (held : Held) (level : ℕ) → 1 ≤ level → level ≤ header.geometry.bottom →
-    (aim : Aim) (cursors : Cursors) (shadow : Run) → IsAimAt header level aim → cursors ≡ cursors_of (numbers_at header level) → shadow ≡ shadow_of header level → (answer : Result Bool ReadFault) →
-    (AreSourcesInOrder held aim → IsRunTold held shadow → IfOk answer (λ cut. IsTrue cut ↔ CutsAfter held aim cursors (run_cells held shadow))) →
-    IfOk answer (λ cut. IsReached (tested_by header held) level → (IsTrue cut ↔ CutAt (tested_by header held) level))
-answer-at header held zero one low = absurd (omega (arith, one))
-answer-at header held (suc i) one low = cut-answer header i low held
+pub cut-asks : (header : Header) (held : Held) (level : ℕ) → 1 ≤ level → level ≤ header.geometry.bottom →
+    {aim : Aim} {cursors : Cursors} {shadow : Run} → IsAimAt header level aim → cursors ≡ cursors_of (numbers_at header level) → shadow ≡ shadow_of header level → CutAsks header held level aim cursors shadow
+cut-asks header held zero one low is at same = absurd (omega (arith, one))
+cut-asks header held (suc i) one low {aim} is at same = transport (λ j. CutAsks header held (suc i) aim (sym at j) (sym same j)) (record {
+  ticks = cut-ticks header i low aim is;
+  blocks = cut-blocks header i low held aim is;
+  fits = λ has inside. cut-fits header i low held has inside aim is;
+  cause = cause-of-test header held (shadow_of header (suc i) ∷ runs_of_aim aim) (runs-told header i low held aim is);
+  answer = cut-answer header i low held aim is;
+})
 
 -- ---- the tests of one run
 
@@ -433,34 +326,27 @@ module _ (header : Header) (level : ℕ) (low : level ≤ header.geometry.bottom
   abbrev is_odd_at : Bool
   is_odd_at = is_odd (period header.clock level)
 
-  by-next : (P : Option Run → Type 0) (next : Option Run) → IsNext header level next → (level < header.geometry.bottom → P (Some (next_of header level))) → (header.geometry.bottom ≤ level → P None) → P next
-  by-next P next is some none =
-      elim (cases_lt level header.geometry.bottom) [
-        | inl above ↦ subst P (sym (is.above above)) (some above)
-        | inr bottom ↦ subst P (sym (is.bottom bottom)) (none bottom)
-      ]
-
   -- one pass over the shadow, and one over the sample of its next run
   pub fit-ticks : (shadow : Run) (next : Option Run) → shadow ≡ shadow_of header level → IsNext header level next → shadow.len + sample_len next ≤ 5 * 2 ^ level
   fit-ticks shadow next same is =
       let fits : shadow.len ≤ slot_size level = subst (λ (r : Run). r.len ≤ slot_size level) (sym same) (shadow-fits header level low) in
       let four = slot-is header level in
-      by-next (λ n. shadow.len + sample_len n ≤ 5 * 2 ^ level) next is (λ above. let few = next-few header level above in omega (arith, fits, four, few)) (λ bottom. omega (arith, fits, four))
+      by-place header level (λ n. shadow.len + sample_len n ≤ 5 * 2 ^ level) is.above is.bottom (λ above. let few = next-few header level above in omega (arith, fits, four, few)) (λ bottom. omega (arith, fits, four))
 
   module _ (held : Held) where
     pub next-runs : HasLevels header held → (next : Option Run) → IsNext header level next → IfSome next (HasRun held)
-    next-runs has next is = by-next (λ n. IfSome n (HasRun held)) next is (λ above. next-has header held level has above) (λ bottom. tt)
+    next-runs has next is = by-place header level (λ n. IfSome n (HasRun held)) is.above is.bottom (λ above. next-has header held level has above) (λ bottom. tt)
 
     abbrev AreAllTold : Type 0
     AreAllTold = AreCellsTold (tested_by header held)
 
     fit-told : (next : Option Run) → IsNext header level next → AreAllTold → AllByRecursion (IsRunTold held) (option_to_list next)
-    fit-told next is t = by-next (λ n. AllByRecursion (IsRunTold held) (option_to_list n)) next is (λ above. (next-told header held level above t, tt)) (λ bottom. tt)
+    fit-told next is t = by-place header level (λ n. AllByRecursion (IsRunTold held) (option_to_list n)) is.above is.bottom (λ above. (next-told header held level above t, tt)) (λ bottom. tt)
 
     both-told : (next : Option Run) → IsNext header level next → AreAllTold → AreBothTold held (shadow_of header level) next
     both-told next is t = record {
       run_told = shadow-told header held level low t;
-      below_told = by-next (λ n. IfSome n (IsRunTold held)) next is (λ above. next-told header held level above t) (λ bottom. tt);
+      below_told = by-place header level (λ n. IfSome n (IsRunTold held)) is.above is.bottom (λ above. next-told header held level above t) (λ bottom. tt);
     }
 
     pub fit-cause : (shadow : Run) (next : Option Run) → shadow ≡ shadow_of header level → IsNext header level next → (before now : ℕ) (fault : ReadFault) (answer : Result Bool ReadFault) → answer ≡ Err fault →
@@ -514,11 +400,6 @@ ends header held level low =
       | inr bottom ↦ ap is_none (below-none header held level bottom) ∙ sym (eq-eqb level header.geometry.bottom (let e : level ≡ header.geometry.bottom = omega (arith, low, bottom) in e))
     ]
 
--- a pass over three runs, by equal runs
-same-runs : (C : Held → Run → Run → Run → Bool → Bool → Type 0) {held held' : Held} {a a' o o' s s' : Run} {odd odd' bottom bottom' : Bool} → held ≡ held' → a ≡ a' → o ≡ o' → s ≡ s' → odd ≡ odd' → bottom ≡ bottom' →
-    C held a o s odd bottom → C held' a' o' s' odd' bottom'
-same-runs C eh ea eo es ed eb h = transport (λ i. C (eh i) (ea i) (eo i) (es i) (ed i) (eb i)) h
-
 module _ (header : Header) (held : Held) (i : ℕ) (low : suc i ≤ header.geometry.bottom) where
   abbrev is_odd_here : Bool
   is_odd_here = is_odd (period header.clock (suc i))
@@ -553,62 +434,58 @@ module _ (header : Header) (held : Held) (i : ℕ) (low : suc i ≤ header.geome
     λ f. lists-carried.1 (part_carried is_odd_here (below_at (levels header held) (suc i)) _ _ _ f.carried f.keeps),
   )
 
--- what the walk beside a fit shadow found is whether it is finished
-pub finished-answer : (header : Header) (held mid : Held) (level : ℕ) → 1 ≤ level → level ≤ header.geometry.bottom → mid ≡ held →
-    (above own shadow : Run) (odd : Bool) → above ≡ visible_of header (level - 1) → own ≡ visible_of header level → shadow ≡ shadow_of header level → odd ≡ is_odd (period header.clock level) →
-    (AreCellsTold (tested_by header held) → FitAt (tested_by header held) level) → (answer : Result Bool ReadFault) →
-    IfOk answer (λ carried. AreInOrder mid above own shadow → (IsTrue carried ↔ AreCarried mid odd (level == header.geometry.bottom) above own shadow)) →
-    IfOk answer (λ finished. IsReached (tested_by header held) level → (IsTrue finished ↔ FinishedAt (tested_by header held) level))
-finished-answer header held mid zero one low stays above own shadow odd a o s d fit answer h = absurd (omega (arith, one))
-finished-answer header held mid (suc i) one low stays above own shadow odd a o s d fit (Err fault) h = tt
-finished-answer header held mid (suc i) one low stays above own shadow odd a o s d fit (Ok carried) h = λ reached.
-    let before : suc i - 1 ≡ i = omega arith in
-    let c = same-runs (λ h a o s odd bottom. AreInOrder h a o s → (IsTrue carried ↔ AreCarried h odd bottom a o s)) stays (a ∙ ap (visible_of header) before) o s d (sym (ends header held (suc i) low)) h
-    (three-order header held i low reached (fit reached.told)) in
-    let f = finishes header held i low (fit reached.told) in
-    (λ t. f.0 (c.0 t), λ t. c.1 (f.1 t))
+-- what the walk beside a fit shadow costs with the tests of the shadow, why it is refused, and whether what it found is that the
+-- shadow is finished
+pub record FinishedAsks (header : Header) (held mid : Held) (level : ℕ) (above own shadow : Run) (odd : Bool) : Type 0 where
+  pub ticks : 5 * 2 ^ level + (above.len + own.len + shadow.len) ≤ 18 * 2 ^ level
+  pub blocks : run_blocks held (shadow_of header level) + blocks_below header held level + (run_blocks held above + run_blocks held own + run_blocks held shadow) ≤ shadow_blocks header held level
+  pub cause : (before between now : ℕ) → between ≡ before → (answer : Result Bool ReadFault) → IfErr answer (PassCause mid (above ∷ own ∷ shadow ∷ []) between now) → IfErr answer (TestCause header held before now)
+  pub answer : (AreCellsTold (tested_by header held) → FitAt (tested_by header held) level) → (answer : Result Bool ReadFault) →
+      IfOk answer (λ carried. AreInOrder mid above own shadow → (IsTrue carried ↔ AreCarried mid odd (level == header.geometry.bottom) above own shadow)) →
+      IfOk answer (λ finished. IsReached (tested_by header held) level → (IsTrue finished ↔ FinishedAt (tested_by header held) level))
 
--- why the walk was refused
-pub walk-cause : (header : Header) (held mid : Held) (level : ℕ) → 1 ≤ level → level ≤ header.geometry.bottom → mid ≡ held →
-    (above own shadow : Run) → above ≡ visible_of header (level - 1) → own ≡ visible_of header level → shadow ≡ shadow_of header level → (before between now : ℕ) → between ≡ before → (answer : Result Bool ReadFault) →
-    IfErr answer (PassCause mid (above ∷ own ∷ shadow ∷ []) between now) → IfErr answer (TestCause header held before now)
-walk-cause header held mid level one low stays above own shadow a o s before between now calm answer h =
-    cause-of-test header held (visible_of header (level - 1) ∷ visible_of header level ∷ shadow_of header level ∷ [])
-    (λ t. (visible-told header held (level - 1) (omega (arith, low)) t, (visible-told header held level low t, (shadow-told header held level low t, tt)))) before now answer
-    (transport (λ i. IfErr answer (PassCause (stays i) (a i ∷ o i ∷ s i ∷ []) (calm i) now)) h)
-
--- the tests of the shadow, and one pass over it and the runs beside it
-pub finished-ticks : (header : Header) (level : ℕ) → 1 ≤ level → level ≤ header.geometry.bottom → (above own shadow : Run) → above ≡ visible_of header (level - 1) → own ≡ visible_of header level → shadow ≡ shadow_of header level →
-    5 * 2 ^ level + (above.len + own.len + shadow.len) ≤ 18 * 2 ^ level
-finished-ticks header level one low above own shadow a o s =
-    let x : above.len ≤ slot_size (level - 1) = subst (λ (r : Run). r.len ≤ slot_size (level - 1)) (sym a) (visible-fits header (level - 1) (omega (arith, low))) in
-    let y : own.len ≤ slot_size level = subst (λ (r : Run). r.len ≤ slot_size level) (sym o) (visible-fits header level low) in
-    let z : shadow.len ≤ slot_size level = subst (λ (r : Run). r.len ≤ slot_size level) (sym s) (shadow-fits header level low) in
-    let four = slot-is header level in
-    let more = slot-is header (level - 1) in
-    let half : 2 ^ level ≡ 2 ^ (level - 1) + 2 ^ (level - 1) = next_power (level - 1) level (omega (arith, one)) in
-    omega (arith, x, y, z, four, more, half)
+pub finished-asks : (header : Header) (held : Held) (level : ℕ) → 1 ≤ level → level ≤ header.geometry.bottom → {mid : Held} {above own shadow : Run} {odd : Bool} → mid ≡ held →
+    above ≡ visible_of header (level - 1) → own ≡ visible_of header level → shadow ≡ shadow_of header level → odd ≡ is_odd (period header.clock level) → FinishedAsks header held mid level above own shadow odd
+finished-asks header held zero one low m a o s d = absurd (omega (arith, one))
+finished-asks header held (suc i) one low m a o s d =
+    let r = a ∙ ap (visible_of header) (let before : suc i - 1 ≡ i = omega arith in before) in
+    transport (λ j. FinishedAsks header held (sym m j) (suc i) (sym r j) (sym o j) (sym s j) (sym d j)) (record {
+      ticks =
+          let x = visible-fits header i (omega (arith, low)) in
+          let y = visible-fits header (suc i) low in
+          let z = shadow-fits header (suc i) low in
+          let four = slot-is header (suc i) in
+          let more = slot-is header i in
+          let half = twice header i in
+          omega (arith, x, y, z, four, more, half);
+      blocks = finished-blocks header held i;
+      cause = λ before between now calm answer h.
+          cause-of-test header held (visible_of header i ∷ visible_of header (suc i) ∷ shadow_of header (suc i) ∷ [])
+          (λ t. (visible-told header held i (omega (arith, low)) t, (visible-told header held (suc i) low t, (shadow-told header held (suc i) low t, tt)))) before now answer
+          (subst (λ (n : ℕ). IfErr answer (PassCause held (visible_of header i ∷ visible_of header (suc i) ∷ shadow_of header (suc i) ∷ []) n now)) calm h);
+      answer = λ fit answer. IfOk-weaker answer _ _ (λ carried h reached.
+          let c : IsTrue carried ↔ IsCarriedHere header held i low = subst (λ (b : Bool). IsTrue carried ↔ AreCarried held (is_odd (period header.clock (suc i))) b (visible_of header i) (visible_of header (suc i)) (shadow_of header (suc i))) (sym (ends header held (suc i) low))
+          (h (three-order header held i low reached (fit reached.told))) in
+          let f = finishes header held i low (fit reached.told) in
+          (λ t. f.0 (c.0 t), λ t. c.1 (f.1 t)));
+    })
 
 -- ---- the phases
 
-module _ (t j : ℕ) where
-  before-phase : (w o : Bool) (n : ℕ) → (if w then Inside n else (if o then After else Before)) ≡ Before → (w ≡ false) × (o ≡ false)
-  before-phase true o n e = cc
-  before-phase false true n e = cc
-  before-phase false false n e = (refl, refl)
+-- a level works inside its window, which is over behind it
+pub record IsInPhase (t j : ℕ) (phase : Phase) : Type 0 where
+  pub before : phase ≡ Before → (works t j ≡ false) × (is_over t j ≡ false)
+  pub inside : (k : ℕ) → phase ≡ Inside k → works t j ≡ true
+  pub after : phase ≡ After → is_over t j ≡ true
 
-  inside-phase : (w o : Bool) (n k : ℕ) → (if w then Inside n else (if o then After else Before)) ≡ Inside k → w ≡ true
-  inside-phase true o n k e = refl
-  inside-phase false true n k e = cc
-  inside-phase false false n k e = cc
-
-  pub before-is : phase_at t j ≡ Before → (works t j ≡ false) × (is_over t j ≡ false)
-  unfolding phase_at
-  before-is e = before-phase (works t j) (is_over t j) (window_step t j) e
-
-  pub inside-is : (k : ℕ) → phase_at t j ≡ Inside k → works t j ≡ true
-  unfolding phase_at
-  inside-is k e = inside-phase (works t j) (is_over t j) (window_step t j) k e
+pub in-phase : (t j : ℕ) → IsInPhase t j (phase_at t j)
+unfolding phase_at
+in-phase t j = by (works t j) (is_over t j) refl refl
+  where
+    by : (w o : Bool) → works t j ≡ w → is_over t j ≡ o → IsInPhase t j (if w then Inside (window_step t j) else (if o then After else Before))
+    by true o e f = record { before = λ h. cc; inside = λ k h. e; after = λ h. cc }
+    by false true e f = record { before = λ h. cc; inside = λ k h. cc; after = λ h. f }
+    by false false e f = record { before = λ h. (e, f); inside = λ k h. cc; after = λ h. cc }
 
 module _ (file : Tested) where
   -- before the window of a level nothing is asked of its shadow
@@ -617,29 +494,18 @@ module _ (file : Tested) where
   before-has (suc i) p = (λ e. record { inside = λ w. cc; over = λ o. cc }, λ s. refl)
 
   -- inside it the cut
-  pub inside-has : (level : ℕ) (cut : Bool) → 1 ≤ level → works file.clock level ≡ true → (IsTrue cut ↔ CutAt file level) → IsTrue cut ↔ ShadowAt file level
-  inside-has zero cut one w h = absurd (omega (arith, one))
-  inside-has (suc i) cut one w h =
-      let still = works-not_over file.clock i w in
-      (λ e. record { inside = λ x. h.0 e; over = λ o. cc }, λ s. h.1 (s.inside w))
+  pub inside-has : (level : ℕ) → 1 ≤ level → works file.clock level ≡ true → CutAt file level ↔ ShadowAt file level
+  inside-has zero one w = absurd (omega (arith, one))
+  inside-has (suc i) one w = let still = works-not_over file.clock i w in (λ c. record { inside = λ x. c; over = λ o. cc }, λ s. s.inside w)
 
   -- behind it the finished shadow
-  pub after-has : (level : ℕ) (finished : Bool) → 1 ≤ level → is_over file.clock level ≡ true → (IsTrue finished ↔ FinishedAt file level) → IsTrue finished ↔ ShadowAt file level
-  after-has zero finished one o h = absurd (omega (arith, one))
-  after-has (suc i) finished one o h =
-      let rests = over-not_works file.clock i o in
-      (λ e. record { inside = λ w. cc; over = λ x. h.0 e }, λ s. h.1 (s.over o))
+  pub after-has : (level : ℕ) → 1 ≤ level → is_over file.clock level ≡ true → FinishedAt file level ↔ ShadowAt file level
+  after-has zero one o = absurd (omega (arith, one))
+  after-has (suc i) one o = let rests = over-not_works file.clock i o in (λ f. record { inside = λ w. cc; over = λ x. f }, λ s. s.over o)
 
-  -- the same of an answer
-  pub inside-answer : (level : ℕ) → 1 ≤ level → works file.clock level ≡ true → (answer : Result Bool ReadFault) → IfOk answer (λ cut. IsReached file level → (IsTrue cut ↔ CutAt file level)) →
-      IfOk answer (λ has. IsReached file level → (IsTrue has ↔ ShadowAt file level))
-  inside-answer level one w (Err fault) h = tt
-  inside-answer level one w (Ok cut) h = λ reached. inside-has level cut one w (h reached)
-
-  pub after-answer : (level : ℕ) → 1 ≤ level → is_over file.clock level ≡ true → (answer : Result Bool ReadFault) → IfOk answer (λ finished. IsReached file level → (IsTrue finished ↔ FinishedAt file level)) →
-      IfOk answer (λ has. IsReached file level → (IsTrue has ↔ ShadowAt file level))
-  after-answer level one o (Err fault) h = tt
-  after-answer level one o (Ok finished) h = λ reached. after-has level finished one o (h reached)
+  -- an answer to one of two equal questions is one to the other
+  pub same-answer : {P Q : Type 0} (level : ℕ) → P ↔ Q → (answer : Result Bool ReadFault) → IfOk answer (λ has. IsReached file level → (IsTrue has ↔ P)) → IfOk answer (λ has. IsReached file level → (IsTrue has ↔ Q))
+  same-answer level e answer = IfOk-weaker answer _ _ (λ has h reached. let c = h reached in (λ t. e.0 (c.0 t), λ q. c.1 (e.1 q)))
 
   -- ---- from the bottom up
 

@@ -1,21 +1,22 @@
 -- The first line that has the least key.
-use Rattle.std.proofs.Common.{◌≡◌, inl, inr, ℕ, zero, suc, ◌+◌, ◌≤◌, ◌<◌, Bool, true, false, cond, List, [], ◌∷◌, ◌++◌, length, take, get_or, Option, None, Some, option_map, refl, sym, ap, subst, ◌∙◌, arith}
+use Rattle.std.proofs.Common.{◌≡◌, inl, inr, ℕ, zero, suc, ◌+◌, ◌≤◌, ◌<◌, Bool, true, false, cond, List, [], ◌∷◌, ◌++◌, length, take, drop, set, get_or, Option, None, Some, option_map, refl, sym, ap, subst, ◌∙◌, arith}
 use Rattle.std.proofs.Math.Seq.{take-suc}
 use Rattle.std.specs.List.{AllByRecursion}
 use Rattle.std.specs.Ordering.{is_lt, is_eq}
 use Rattle.cola_cell.specs.declared.cell.Cell.{Cell}
+use Rattle.cola_cell.specs.declared.cell.Item.{Item}
 use Rattle.cola_cell.specs.Cell.{key_of}
 use Rattle.cola_cell.specs.Held.{Held}
 use Rattle.cola_cell.specs.Order.{key_cmp}
 use Rattle.cola_cursor.specs.declared.line.Line.{Line}
 use Rattle.cola_cursor.specs.Lines.{LineFits, IsReady}
-use Rattle.cola_cursor.specs.Passing.{has_key, NoneHas, PassAll}
+use Rattle.cola_cursor.specs.Passing.{has_key, NoneHas, Passes, PassAll}
 use Rattle.cola_cursor.specs.Results.{lesser, lowered, is_lower, least_from}
 use Rattle.cola_cursor.specs.Way.{way_cmp}
 use Rattle.cola_cursor.proofs.Fronts.{passing_begins, passing_ends}
 use Rattle.cola_cursor.proofs.Keys.{same_key, none_ends}
 use Rattle.cola_cursor.proofs.Least.{HeadPast, HeadFrom, by_bool, least_is, least_none}
-use Rattle.cola_cursor.proofs.Lists.{all_taken}
+use Rattle.cola_cursor.proofs.Lists.{all_taken, or_none}
 
 module _ (falls : Bool) where
   -- ---- one line more
@@ -95,3 +96,12 @@ module _ (falls : Bool) where
   pass_none held key [] (suc n) f r h = refl
   pass_none held key (x ∷ xs) zero f r h = refl
   pass_none held key (x ∷ xs) (suc n) f r h = (None, None, passing_ends falls (passing_begins falls held key x f.0 r.0) h.0, pass_none held key xs n f.1 r.1 h.1, refl)
+
+  -- one line that passes a key, which none of the others has
+  pub pass_one : (held : Held) (key : List ℕ) (lines : List Line) (i : ℕ) (d new : Line) (item : Option Item) → AllByRecursion (LineFits falls held) lines → AllByRecursion IsReady lines → i < length lines →
+      NoneHas key (take i lines) → NoneHas key (drop (suc i) lines) → Passes falls held key (get_or lines i d) new item → PassAll falls held key lines (set lines i new) item
+  pass_one held key [] i d new item f r l a b p = absurd (omega arith)
+  pass_one held key (x ∷ xs) zero d new item f r l a b p =
+      let e = all_taken falls xs (length xs) (omega arith) in
+      (item, None, p, subst (λ ys. PassAll falls held key ys ys None) e (pass_none held key xs (length xs) f.1 r.1 (subst (NoneHas key) (sym e) b)), sym (or_none falls item))
+  pass_one held key (x ∷ xs) (suc i) d new item f r l a b p = (None, item, passing_ends falls (passing_begins falls held key x f.0 r.0) a.0, pass_one held key xs i d new item f.1 r.1 (omega arith) a.1 b p, refl)

@@ -18,7 +18,7 @@ use Rattle.cola_pairs.specs.Walk.{pass_key, passed_item}
 use Rattle.cola_cursor.specs.declared.line.Line.{Line}
 use Rattle.cola_cursor.specs.Lines.{HeadFits, HeadIsRead, LineFits, IsReady}
 use Rattle.cola_cursor.specs.Passing.{has_key, PassedAt, FoundItem, Passes}
-use Rattle.cola_cursor.specs.Results.{Fetches, item_of}
+use Rattle.cola_cursor.specs.Results.{Fetches, item_of, is_value}
 use Rattle.cola_cursor.proofs.Keys.{key_same, same_key, way_length, way_get, at_within}
 use Rattle.cola_cursor.specs.Way.{way, at, spot_at}
 
@@ -227,3 +227,15 @@ module _ (falls : Bool) where
       moved : (old.place < new.place) ⊎ IsTrue (has_key key new.head) → old.place < new.place
       moved (inl h) = h
       moved (inr h) = let f : true ≡ false = sym h ∙ e in cc
+
+-- a value at the front stays the first item that is found
+pub value_stays : (old line : Line) (item joined : Option Item) → joined ≡ option_or item (item_of line.head) → is_value (item_of old.head) ≡ true → (is_value item ≡ true) ⊎ ((item ≡ None) × (line ≡ old)) → is_value joined ≡ true
+value_stays old line None joined j v (inl e) = cc
+value_stays old line None joined j v (inr e) = ap is_value (j ∙ ap (λ (x : Line). item_of x.head) e.1) ∙ v
+value_stays old line (Some i) joined j v (inl e) = ap is_value j ∙ e
+value_stays old line (Some i) joined j v (inr e) = let f = e.0 in cc
+
+-- and it is found where the key of the front was passed
+pub value_found : (old line : Line) (item : Option Item) (key : List ℕ) → has_key key line.head ≡ false → has_key key old.head ≡ true → (is_value item ≡ true) ⊎ ((item ≡ None) × (line ≡ old)) → is_value item ≡ true
+value_found old line item key n h (inl e) = e
+value_found old line item key n h (inr e) = let f = sym h ∙ sym (ap (λ (x : Line). has_key key x.head) e.1) ∙ n in cc

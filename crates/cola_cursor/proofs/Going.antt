@@ -1,6 +1,6 @@
 -- A cursor on its way to its next pair.
-use Rattle.std.proofs.Common.{◌≡◌, ◌⊎◌, inl, inr, ℕ, ◌+◌, ◌≤◌, true, List, [], ◌∷◌, Option, None, Some, Result, Ok, Err, option_map, sym, ap, subst, ◌∙◌, arith, Bool}
-use Rattle.std.specs.List.{AllByRecursion}
+use Rattle.std.proofs.Common.{◌≡◌, ◌⊎◌, inl, inr, ℕ, ◌+◌, ◌≤◌, true, List, [], ◌∷◌, length, Option, None, Some, Result, Ok, Err, option_map, sym, ap, subst, ◌∙◌, arith, Bool}
+use Rattle.std.specs.List.{AllByRecursion, refill}
 use Rattle.cola_runs.specs.Cells as laws
 use Rattle.cola_cell.specs.declared.cell.Cell.{Cell}
 use Rattle.cola_cell.specs.declared.cell.Item.{Item}
@@ -25,8 +25,9 @@ use Rattle.cola_cursor.specs.Lines.{LineFits, IsReady, Reading, all_left}
 use Rattle.cola_cursor.specs.Passing.{PassAll}
 use Rattle.cola_cursor.specs.Results.{FetchAll, HasBadLine, LinesCause, least_from}
 use Rattle.cola_cursor.specs.Standing.{runs_of, rests, befores, AreApart, StandsAlong, Stands, Ahead, AheadAlong, TakesNext, AnswerCause, IsPassed, answered_key, HeadEnds, LineEnds, LinesPassed, none_hidden}
-use Rattle.cola_cursor.specs.Giving.{NextGives}
+use Rattle.cola_cursor.specs.Giving.{NextGives, OneGives}
 use Rattle.cola_cursor.proofs.Least.{HeadPast, AnyHas, IsLeast, least_is, least_none}
+use Rattle.cola_cursor.proofs.Lists.{refilled}
 use Rattle.cola_cursor.proofs.Stepping.{fetch_runs, fetch_fit, fetch_ready, fetch_bad, fetch_rests, fetch_befores, pass_runs, pass_fit, pass_ready, pass_bad, heads_from, heads_past, onward_rests, step_lives, step_apart}
 use Rattle.cola_cursor.proofs.Behind.{fetch_passes, passes_then, look_passes, tombstone_passes, answer_passes}
 
@@ -249,3 +250,10 @@ module _ (falls : Bool) where
       cause = cause;
       looks = looks;
     }) looks
+
+  -- a step on one line, seen in the lines that it was lent
+  pub one_gives : {W : Type 0} (w : source.Ghosts W) (before now : W) (end : Option (List ℕ)) (olds lines news : List Line) (ticks ticks_now : ℕ) (result answer : Result (Option (List ℕ × List ℕ × ℕ)) ReadFault) → result ≡ answer → lines ≡ olds → length news ≡ length lines →
+      OneGives falls w before now end lines news ticks ticks_now result → OneGives falls w before now end olds (refill (length olds) olds news) ticks ticks_now answer
+  one_gives w before now end olds lines news ticks ticks_now result answer e l n h =
+      subst (λ (xs : List Line). OneGives falls w before now end xs (refill (length xs) xs news) ticks ticks_now answer) l
+      (subst (λ ys. OneGives falls w before now end lines ys ticks ticks_now answer) (sym (refilled falls lines news n)) (subst (λ x. OneGives falls w before now end lines news ticks ticks_now x) e h))

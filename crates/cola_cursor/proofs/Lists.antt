@@ -1,13 +1,15 @@
 -- Lists of lines, line by line.
-use Rattle.std.proofs.Common.{◌≡◌, inl, inr, ℕ, zero, suc, ◌+◌, ◌≤◌, ◌<◌, List, [], ◌∷◌, ◌++◌, length, drop, take, get_or, Option, None, Some, Result, Ok, Err, IfErr, IsErrAnd, refl, sym, ap, subst, ◌∙◌, arith, length-append, Bool}
+use Rattle.std.proofs.Common.{◌≡◌, inl, inr, ℕ, zero, suc, ◌+◌, ◌≤◌, ◌<◌, List, [], ◌∷◌, ◌++◌, length, drop, take, set, get_or, Option, None, Some, Result, Ok, Err, IfErr, IsErrAnd, refl, sym, ap, subst, ◌∙◌, arith, length-append, Bool}
+use Rattle.std.proofs.Math.Seq.{take-length}
+use Rattle.std.proofs.lemmas.List.{take-append-le}
 use Rattle.std.specs.Option.{option_or}
-use Rattle.std.specs.List.{AllByRecursion}
+use Rattle.std.specs.List.{AllByRecursion, refill}
 use Rattle.cola_cell.specs.declared.cell.Item.{Item}
 use Rattle.cola_cell.specs.declared.fault.ReadFault.{ReadFault}
 use Rattle.cola_cell.specs.declared.fault.ReadFault.TheVariants.{Device, BadCell}
 use Rattle.cola_cell.specs.Held.{Held}
 use Rattle.cola_cursor.specs.declared.line.Line.{Line}
-use Rattle.cola_cursor.specs.Lines.{left_of, all_left, LineCause}
+use Rattle.cola_cursor.specs.Lines.{LineFits, IsReady, left_of, all_left, LineCause}
 use Rattle.cola_cursor.specs.Passing.{Passes, PassAll}
 use Rattle.cola_cursor.specs.Results.{Fetches, FetchAll, HasBadLine, LinesCause}
 
@@ -47,6 +49,10 @@ module _ (falls : Bool) where
     all_taken (x ∷ xs) zero h = absurd (omega arith)
     all_taken (x ∷ xs) (suc i) h = ap (λ z. x ∷ z) (all_taken xs i (omega arith))
 
+    -- a list that takes the place of another as long
+    pub refilled : (xs ws : List X) → length ws ≡ length xs → refill (length xs) xs ws ≡ ws
+    refilled xs ws h = take-append-le (length xs) ws (drop (length ws) xs) (omega (arith, h)) ∙ ap (λ n. take n ws) (sym h) ∙ take-length ws
+
   -- ---- fetched lines
 
   pub fetch_push : (held : Held) (olds news : List Line) (old new : Line) → FetchAll falls held olds news → Fetches falls held old new → FetchAll falls held (olds ++ old ∷ []) (news ++ new ∷ [])
@@ -55,13 +61,18 @@ module _ (falls : Bool) where
   fetch_push held (o ∷ olds) [] old new h f = absurd h
   fetch_push held (o ∷ olds) (n ∷ news) old new h f = (h.0, fetch_push held olds news old new h.1 f)
 
+  -- lines that were read before
+  pub fetch_none : (held : Held) (lines : List Line) → AllByRecursion (LineFits falls held) lines → AllByRecursion IsReady lines → FetchAll falls held lines lines
+  fetch_none held [] f r = tt
+  fetch_none held (x ∷ xs) f r = (record { run_is = refl; place_is = refl; keeps = λ cell h. h; fits = f.0; ready = r.0 }, fetch_none held xs f.1 r.1)
+
   -- ---- passed lines
 
   or_joined : {X : Type 0} (a b c : Option X) → option_or (option_or a b) c ≡ option_or a (option_or b c)
   or_joined None b c = refl
   or_joined (Some x) b c = refl
 
-  or_none : {X : Type 0} (a : Option X) → option_or a None ≡ a
+  pub or_none : {X : Type 0} (a : Option X) → option_or a None ≡ a
   or_none None = refl
   or_none (Some x) = refl
 
@@ -84,6 +95,12 @@ module _ (falls : Bool) where
   left_split [] (suc i) = omega arith
   left_split (x ∷ lines) zero = omega arith
   left_split (x ∷ lines) (suc i) = let r = left_split lines i in omega arith
+
+  -- what is left of one line, and of the others
+  pub left_at : (lines : List Line) (i : ℕ) (d new : Line) → i < length lines → (rest : ℕ) × (all_left lines ≡ left_of (get_or lines i d) + rest) × (all_left (set lines i new) ≡ left_of new + rest)
+  left_at [] i d new l = absurd (omega arith)
+  left_at (x ∷ xs) zero d new l = (all_left xs, refl, refl)
+  left_at (x ∷ xs) (suc i) d new l = let r = left_at xs i d new (omega arith) in let a = r.1 in let b = r.2 in (left_of x + r.0, omega (arith, a), omega (arith, b))
 
   -- ---- causes
 

@@ -1,5 +1,5 @@
 -- What the calls of a cursor give: its beginning, and a step, by its answer, and where the cursor and the object stand then.
-use Rattle.std.specs.Prelude.{◌≡◌, ℕ, ◌+◌, ◌*◌, ◌≤◌, List, map, length, Option, Result, IfOk, IfErr, OnOk, OnErr, Bool, false}
+use Rattle.std.specs.Prelude.{◌≡◌, ℕ, ◌+◌, ◌*◌, ◌≤◌, List, map, length, Option, None, Some, Result, Ok, Err, IfOk, IfErr, OnOk, OnErr, Bool, false}
 use Rattle.cola_cell.specs.declared.cell.Run.{Run}
 use Rattle.cola_cell.specs.declared.fault.ReadFault.{ReadFault}
 use Rattle.cola_cell.specs.declared.source.CellSource as source
@@ -70,3 +70,12 @@ module _ (falls : Bool) where
       (ticks ticks_now : ℕ) → Result (Option (List ℕ × List ℕ × ℕ)) ReadFault → Type 0
   LinesGive w before now end old new saved ticks ticks_now result =
       NextGives w before now (cursor_at old end falls) (cursor_at (lines_left result saved new) end falls) ticks ticks_now result
+
+  -- a step on one line alone, up to an end: what the cursor at the lines gives; none says that it is no such step, and that nothing changed
+  abbrev pub OneGives : {W : Type 0} → source.Ghosts W → (before now : W) → Option (List ℕ) → (old new : List Line) →
+      (ticks ticks_now : ℕ) → Result (Option (List ℕ × List ℕ × ℕ)) ReadFault → Type 0
+  OneGives w before now end old new ticks ticks_now (Ok None) = (now ≡ before) × (new ≡ old) × (ticks_now ≡ ticks)
+  OneGives w before now end old new ticks ticks_now (Ok (Some pair)) =
+      NextGives w before now (cursor_at old end falls) (cursor_at new end falls) ticks ticks_now (Ok (Some pair))
+  OneGives w before now end old new ticks ticks_now (Err fault) =
+      NextGives w before now (cursor_at old end falls) (cursor_at new end falls) ticks ticks_now (Err fault)

@@ -8,6 +8,7 @@ use Rattle.cola_cell.specs.declared.fault.ReadFault.TheVariants.{Device, BadCell
 use Rattle.cola_cell.specs.declared.cell.Cell.{Cell}
 use Rattle.cola_cell.specs.declared.cell.Cell.TheVariants as cell
 use Rattle.cola_cell.specs.declared.cell.Item.{Item}
+use Rattle.cola_cell.specs.declared.cell.Item.TheVariants as item
 use Rattle.cola_cell.specs.declared.fault.ReadFault.{ReadFault}
 use Rattle.cola_cell.specs.Held.{Held}
 use Rattle.cola_cursor.specs.declared.line.Line.{Line}
@@ -24,6 +25,12 @@ abbrev pub item_of : Option Cell → Option Item
 item_of None = None
 item_of (Some (cell.Item key item young link)) = Some item
 item_of (Some (cell.Look key link)) = None
+
+-- an item with a value
+abbrev pub is_value : Option Item → Bool
+is_value (Some (item.Value value stamp)) = true
+is_value (Some item.Tombstone) = false
+is_value None = false
 
 -- what lines have still to read after a call: nothing is asked of a refused one
 abbrev pub left_then : {T : Type 0} → Result T ReadFault → List Line → ℕ

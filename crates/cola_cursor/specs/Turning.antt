@@ -20,13 +20,17 @@ use Rattle.cola_cursor.specs.Lines.{Reading, all_left, ahead_of}
 use Rattle.cola_cursor.specs.Seeking.{places_from, places_told, aheads_of, range_ticks, left_sought, RunsCause}
 use Rattle.cola_cursor.specs.Standing.{runs_of, AreSearched, Stands, Ahead}
 
+-- a line in a run at an index, whose next cell is not read
+abbrev pub line_at : Run → ℕ → Line
+line_at run place = record { run = run; place = place; head = None }
+
 -- a line that goes back from where it stands: as many cells come as were before its place, and its next cell is not read
 abbrev pub turned_line : Line → Line
-turned_line line = record { run = line.run; place = line.run.len - line.place; head = None }
+turned_line line = line_at line.run (line.run.len - line.place)
 
 -- a line that goes back from the end of its run
 abbrev pub end_line : Run → Line
-end_line run = record { run = run; place = 0; head = None }
+end_line run = line_at run 0
 
 -- the least string of bytes above a key: the key with a zero byte behind it
 abbrev pub over_key : List ℕ → List ℕ

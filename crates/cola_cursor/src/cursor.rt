@@ -11,6 +11,7 @@ ghost use Rattle.cola_cursor.specs.Turning.{EndGives, TurnedGives, sought};
 use crate::line::Line;
 use crate::lines::{least_key, pass_all, read_heads};
 use crate::saved::{Saved, put_back};
+use crate::simple::simple_step;
 use crate::starts::{end_lines, seek_lines, turned_lines};
 use arrayvec::ArrayVec;
 use cola_cell::{CellSource, Item, Key, MOST_LEVELS, ReadFault, Run, Value};
@@ -88,6 +89,31 @@ impl Cursor {
     /// The next pair in a direction, with its stamp; none where no pair is left. After a refusal the cursor stands where
     /// it was. It makes a tick for each cell that it reads.
     pub fn next_stamped<W: CellSource, L: Ledger>(
+        &mut self,
+        work: &mut W,
+        steps: &mut Steps<L>,
+    ) -> Result<Option<(Key, Value, u64)>, ReadFault>
+        requires { Stands (W.state work.old).held self.old }
+        ensures { NextGives self.old.falls W.CellSource work.old work.new self.old self.new
+            steps.old steps.new result }
+    {
+        match simple_step(
+            work,
+            self.lines.as_mut_slice(),
+            &self.end,
+            self.falls,
+            steps,
+        ) {
+            Ok(Some(pair)) => Ok(Some(pair)),
+            Ok(None) => self.next_saving(work, steps),
+            Err(fault) => Err(fault),
+        }
+    }
+
+    /// The same with a room in which each line that changes is saved. It is a function of its own, so that the room is
+    /// cleared for the steps alone that need it.
+    #[inline(never)]
+    fn next_saving<W: CellSource, L: Ledger>(
         &mut self,
         work: &mut W,
         steps: &mut Steps<L>,

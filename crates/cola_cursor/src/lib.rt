@@ -10,6 +10,7 @@ pub mod laws;
 mod line;
 mod lines;
 mod saved;
+mod simple;
 mod starts;
 mod stop;
 

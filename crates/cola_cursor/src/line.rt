@@ -2,7 +2,7 @@
 ghost use Rattle.std.specs.Prelude.{◌≡◌, ◌+◌, ◌<◌, ◌≤◌, IfOk, IsTrue};
 ghost use Rattle.cola_cursor.specs.Way.{at};
 
-use cola_cell::{CellSource, Item, Key, Packed, ReadFault, Run};
+use cola_cell::{CellRoom, CellSource, Item, Key, ReadFault, Run};
 use cola_outside::Steps;
 use std::sync::ledger::Ledger;
 
@@ -12,7 +12,7 @@ use std::sync::ledger::Ledger;
 pub struct Line {
     pub run: Run,
     pub place: u32,
-    pub head: Option<Packed>,
+    pub head: CellRoom,
 }
 
 impl Default for Line {
@@ -25,7 +25,7 @@ impl Default for Line {
         Line {
             run,
             place: 0,
-            head: None,
+            head: CellRoom::empty(),
         }
     }
 }
@@ -39,24 +39,26 @@ fn index_at(len: u32, place: u32, falls: bool) -> u32
     if falls { len - 1 - place } else { place }
 }
 
-/// A copy of a head.
-fn copy_head(head: &Option<Packed>) -> Option<Packed>
-    ensures { result ≡ head.now }
-{
-    match head {
-        Some(cell) => Some(cell.copy()),
-        None => None,
-    }
-}
-
 impl Line {
     ghost use Rattle.std.specs.Prelude.{◌≡◌, ◌+◌, ◌<◌, ◌≤◌, IfOk, OnOk, IsTrue, Some, None};
     ghost use Rattle.cola_cell.specs.Looks.{OnlyLooks};
     ghost use Rattle.cola_cursor.specs.Causes.{HasLineCause};
     ghost use Rattle.cola_cursor.specs.Lines.{LineFits, IsReady, left_of, Reading};
     ghost use Rattle.cola_cursor.specs.Passing.{Passes, has_key};
-    ghost use Rattle.cola_cursor.specs.Turning.{turned_line};
-    ghost use Rattle.cola_cursor.specs.Results.{Fetches, left_after, item_of};
+    ghost use Rattle.cola_cursor.specs.Turning.{turned_line, line_at};
+    ghost use Rattle.cola_cursor.specs.Results.{Fetches, left_after, item_of, is_value};
+
+    /// The line in a run at an index, or at the run's length, whose cell is not read yet.
+    #[inline(always)]
+    pub(crate) fn at(run: Run, place: u32) -> Line
+        ensures { result ≡ line_at run place }
+    {
+        Line {
+            run,
+            place,
+            head: CellRoom::empty(),
+        }
+    }
 
     /// Reads its next cell, unless that is read, or it is at the end.
     pub(crate) fn read_head<W: CellSource, L: Ledger>(
@@ -72,15 +74,13 @@ impl Line {
         ensures cause { HasLineCause falls W.CellSource work.old work.new self.old result }
         ensures looks { OnlyLooks W.CellSource work.old work.new result }
     {
-        if self.head.is_some() || self.place == self.run.len {
+        if self.head.has_cell() || self.place == self.run.len {
             return Ok(());
         }
-        let mut cell = Packed::blank();
         let run = self.run;
         let index = index_at(run.len, self.place, falls);
-        work.read_packed(None, run.level, run.slot, index, &mut cell, steps)?;
-        self.head = Some(cell);
-        Ok(())
+        self.head
+            .read(work, None, run.level, run.slot, index, steps)
     }
 
     /// A copy.
@@ -90,7 +90,7 @@ impl Line {
         Line {
             run: self.run,
             place: self.place,
-            head: copy_head(&self.head),
+            head: self.head.copy(),
         }
     }
 
@@ -99,11 +99,7 @@ impl Line {
         requires { self.now.place ≤ self.now.run.len }
         ensures { result ≡ turned_line self.now }
     {
-        Line {
-            run: self.run,
-            place: self.run.len - self.place,
-            head: None,
-        }
+        Line::at(self.run, self.run.len - self.place)
     }
 
     /// Whether its next cell is read, or it is at the end.
@@ -111,7 +107,7 @@ impl Line {
     pub(crate) fn is_ready(&self) -> bool
         ensures { IsTrue result → IsReady self.now }
     {
-        self.head.is_some() || self.place == self.run.len
+        self.head.has_cell() || self.place == self.run.len
     }
 
     /// Whether the next cell has this key.
@@ -119,7 +115,7 @@ impl Line {
     pub(crate) fn has_key(&self, key: &Key) -> bool
         ensures { result ≡ has_key key.now self.now.head }
     {
-        match &self.head {
+        match self.head.cell() {
             Some(cell) => cell.key_cmp(key).is_eq(),
             None => false,
         }
@@ -129,9 +125,20 @@ impl Line {
     fn item(&self) -> Option<Item>
         ensures { result ≡ item_of self.now.head }
     {
-        match &self.head {
+        match self.head.cell() {
             Some(cell) => cell.item(),
             None => None,
+        }
+    }
+
+    /// Whether the next cell is an item with a value.
+    #[inline]
+    pub(crate) fn has_value(&self) -> bool
+        ensures { result ≡ is_value (item_of self.now.head) }
+    {
+        match self.head.cell() {
+            Some(cell) => !cell.is_look() && !cell.is_tombstone(),
+            None => false,
         }
     }
 
@@ -145,7 +152,7 @@ impl Line {
         if self.place < self.run.len {
             self.place += 1;
         }
-        self.head = None;
+        self.head.clear();
     }
 
     /// Passes the cells at its front that have this key, reads its next cell, and gives the first item among those.
@@ -159,6 +166,8 @@ impl Line {
         requires fits { LineFits falls (W.state work.old).held self.old }
         requires ready { IsReady self.old }
         ensures passes { IfOk result (Passes falls (W.state work.old).held key.now self.old self.new) }
+        ensures first { IfOk result (λ item. IsTrue (has_key key.now self.old.head)
+            → IsTrue (is_value (item_of self.old.head)) → IsTrue (is_value item)) }
         ensures left { steps.new + left_after result self.new ≤ steps.old + left_of self.old }
         ensures reading { Reading (W.state work.old) (W.state work.new) steps.old steps.new }
         ensures cause { HasLineCause falls W.CellSource work.old work.new self.old result }

@@ -14,7 +14,7 @@ ghost use Rattle.cola_cursor.specs.Results.{FetchAll, left_then, is_lower, least
 use crate::line::Line;
 use crate::saved::{Saved, save};
 use arrayvec::ArrayVec;
-use cola_cell::{CellSource, Item, Key, MOST_LEVELS, Packed, ReadFault};
+use cola_cell::{CellRoom, CellSource, Item, Key, MOST_LEVELS, Packed, ReadFault};
 use cola_outside::Steps;
 use std::sync::ledger::Ledger;
 
@@ -75,7 +75,7 @@ fn leads(cell: &Packed, other: &Packed, falls: bool) -> bool
 fn lesser<'a>(
     least: Option<&'a Packed>,
     first: usize,
-    head: &'a Option<Packed>,
+    head: &'a CellRoom,
     i: usize,
     falls: bool,
 ) -> (Option<&'a Packed>, usize)
@@ -84,7 +84,7 @@ fn lesser<'a>(
         (key_in least.entry) }
     ensures first { result.1 ≡ cond (is_lower falls head.now (key_in least.entry)) i first }
 {
-    match head {
+    match head.cell() {
         Some(cell) => match least {
             Some(other) => {
                 if leads(cell, other, falls) {

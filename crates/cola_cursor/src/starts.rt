@@ -65,11 +65,7 @@ pub(crate) fn seek_lines<W: CellSource, L: Ledger>(
         let run = &runs[i];
         let next_len = length_at(runs, i + 1);
         let stop = stop_in(work, run, next_len, start, key, over, steps)?;
-        lines.push(Line {
-            run: *run,
-            place: stop.place,
-            head: None,
-        });
+        lines.push(Line::at(*run, stop.place));
         start = stop.link;
     }
     Ok(lines)
@@ -95,11 +91,7 @@ pub(crate) fn end_lines(runs: &[Run]) -> ArrayVec<Line, MOST_LEVELS>
 {
     let mut lines = ArrayVec::new();
     for run in runs {
-        lines.push(Line {
-            run: *run,
-            place: 0,
-            head: None,
-        });
+        lines.push(Line::at(*run, 0));
     }
     lines
 }

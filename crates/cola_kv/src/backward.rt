@@ -48,9 +48,10 @@ fn left_in(line: &Line) -> u32
     ensures { result ≡ left_of line.now }
 {
     let ahead = line.run.len.saturating_sub(line.place);
-    match &line.head {
-        Some(_) => ahead.saturating_sub(1),
-        None => ahead,
+    if line.head.has_cell() {
+        ahead.saturating_sub(1)
+    } else {
+        ahead
     }
 }
 

@@ -30,5 +30,4 @@ blocks-few g rows =
     let turn : full_blocks g rows * (7 * block_cells g) ≡ 7 * (block_cells g * full_blocks g rows) = mul_comm (full_blocks g rows) (7 * block_cells g) ∙ mul_assoc 7 (block_cells g) (full_blocks g rows) in
     let some = pow_pos g.block_exp in
     let few : full_blocks g rows ≤ 8 * rows / (7 * block_cells g) = le-div (full_blocks g rows) (8 * rows) (7 * block_cells g) (omega (arith, some)) (omega (arith, below-sum g rows (device_levels g), turn)) in
-    let exp : 3 ≤ g.block_exp = g.block_fits.group in
-    omega (arith, few, exp)
+    omega (arith, few, g.block_fits.group)

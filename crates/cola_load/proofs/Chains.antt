@@ -1,12 +1,12 @@
 -- Lines that say rows: judged one after another against the whole list, read by the plain slow program, sound, and printed.
-use Rattle.std.proofs.Common.{◌≡◌, ℕ, Bool, true, false, ◌||◌, List, [], ◌∷◌, ◌++◌, length, Option, Some, None, refl, sym, ap, ◌∙◌, append_assoc, length-append, subst, suc, ◌+◌, ◌-◌, ◌<◌, take, get_or, option_map, option_copied, arith, ◌≤◌, All, nat_le, if◌then◌else◌, ◌⊎◌, inl, inr, ◌&&◌, nat_eq, bytes_eq, codes, ◌≢◌, ◌==◌}
+use Rattle.std.proofs.Common.{◌≡◌, ℕ, Bool, true, false, ◌||◌, List, [], ◌∷◌, ◌++◌, length, Option, Some, None, refl, sym, ap, ◌∙◌, length-append, subst, suc, ◌+◌, ◌-◌, ◌<◌, take, get_or, option_map, option_copied, arith, ◌≤◌, All, nat_le, if◌then◌else◌, ◌⊎◌, inl, inr, ◌&&◌, nat_eq, bytes_eq, codes, ◌≢◌, ◌==◌}
 use Rattle.std.proofs.Math.Bool.{or-false}
 use Rattle.std.specs.List.{list_any, slice_get}
-use Rattle.std.specs.Option.{option_or}
+use Rattle.std.specs.Option.{option_or, MatchOption}
 use Rattle.std.proofs.lemmas.Grind.{flat_map-append}
 use Rattle.std.proofs.lemmas.List.Concat.{flat_map-cons}
 use Rattle.std.proofs.lemmas.List.Folds.{list_any-append, list_any_none}
-use Rattle.std.proofs.lemmas.List.{append-nil, map_more}
+use Rattle.std.proofs.lemmas.List.{append-nil, append_assoc, map_more}
 use Rattle.cola_cell.specs.declared.format.Format.{Format}
 use Rattle.cola_shapes.specs.Shapes.{shape_of}
 use Rattle.cola_spec.specs.Map.{Shape, key_cmp, is_key, is_value}
@@ -17,7 +17,7 @@ use Rattle.cola_load.specs.declared.answer.Word.{Word}
 use Rattle.cola_load.specs.declared.answer.Word.TheVariants as word
 use Rattle.cola_load.specs.declared.answer.RowLine.{RowLine}
 use Rattle.cola_load.specs.Said.{said, as_line, words_said, row_said, pair_said, end_said, text_said}
-use Rattle.cola_load.specs.Rows.{Standing, standing, rows_said, is_end, row_of, last_key, word_behind, first_word, lines_before_word, unless, has_end, is_not_above, word_at, PairFits}
+use Rattle.cola_load.specs.Rows.{standing, rows_said, is_end, row_of, last_key, word_behind, first_word, lines_before_word, unless, has_end, is_not_above, word_at, PairFits}
 use Rattle.cola_load.specs.Judged.{Judging, Judged, AllJudged, counted, key_after, settled, answer_of, given, telling, row_given, rows_given}
 use Rattle.std.specs.Borrow.{Bor}
 use Rattle.cola_load.specs.PlainLines.{lines_of}
@@ -52,17 +52,14 @@ rows_more shape lines line =
 pub any_more : {A : Type 0} (p : A → Bool) (xs : List A) (x : A) → list_any p (xs ++ x ∷ []) ≡ (list_any p xs || p x)
 any_more p xs x = list_any-append p xs (x ∷ []) ∙ ap (λ b. list_any p xs || b) (or-false (p x))
 
-abbrev standing_of : ℕ → ℕ → Option (List ℕ) → Bool → Standing
-standing_of lines rows last ended = record { lines = lines; rows = rows; last = last; ended = ended }
-
-standing_alike : {a a' b b' : ℕ} {k k' : Option (List ℕ)} {e e' : Bool} → a ≡ a' → b ≡ b' → k ≡ k' → e ≡ e' → standing_of a b k e ≡ standing_of a' b' k' e'
-standing_alike first second third fourth = cc
-
 -- what lines come to with one more behind them
 pub standing_more : (shape : Shape) (lines : List Line) (line : Line) → standing shape (lines ++ line ∷ []) ≡ counted (standing shape lines) (said shape line)
-standing_more shape lines line =
-    standing_alike (length-append lines (line ∷ [])) (ap length (rows_more shape lines line) ∙ length-append (rows_said shape lines) (row_of (said shape line)))
-    (ap last_key (rows_more shape lines line) ∙ key_more (rows_said shape lines) (said shape line)) (any_more (λ l. is_end (said shape l)) lines line)
+standing_more shape lines line = λ i. record {
+  lines = length-append lines (line ∷ []) i;
+  rows = (ap length (rows_more shape lines line) ∙ length-append (rows_said shape lines) (row_of (said shape line))) i;
+  last = (ap last_key (rows_more shape lines line) ∙ key_more (rows_said shape lines) (said shape line)) i;
+  ended = any_more (λ l. is_end (said shape l)) lines line i;
+}
 
 -- behind lines of which none had a word
 abbrev pub behind : ℕ → Format → List Line → Judging
@@ -123,12 +120,11 @@ comes keys format before [] [] old new is all = record {
   word = ap (λ s. s.word) (all ∙ is);
   stands = ap (λ s. s.before) (all ∙ is) ∙ ap (standing (shape_of format keys)) (sym (append-nil before));
 }
-comes keys format before [] (answer ∷ answers) old new is all = absurd all
-comes keys format before (line ∷ lines) [] old new is all = absurd all
 comes keys format before (line ∷ lines) (answer ∷ answers) old new is all =
     let judged : Judged (behind keys format before) line answer all.1.0 = subst (λ o. Judged o line answer all.1.0) is all.1.1.0 in
     one_more keys format before line lines answer answers all.1.0 new (word_behind (shape_of format keys) before line) refl judged.answered judged.after all.1.1.1
     (λ next. comes keys format (before ++ line ∷ []) lines answers all.1.0 new next all.1.1.1)
+comes keys format before lines answers old new is all = absurd all
 
 -- ---- what the plain slow program has read of a list of lines
 
@@ -183,28 +179,21 @@ IsBelow key row = key_cmp row.0 key ≡ Less
 pub record Sound (limit : ℕ) (rows : List (List ℕ × List ℕ)) : Type 0 where
   pub rises : Rises rows
   pub few : length rows ≤ limit
-  pub up : (last : List ℕ) → last_key rows ≡ Some last → All (UpTo last) rows
-
-no_rows : (rows : List (List ℕ × List ℕ)) → last_key rows ≡ None → rows ≡ []
-no_rows [] none = refl
-no_rows (row ∷ []) none = cc
-no_rows (row ∷ next ∷ rows) none = let h = no_rows (next ∷ rows) none in cc
+  pub up : MatchOption (last_key rows) (rows ≡ []) (λ last. All (UpTo last) rows)
 
 not_le : (o : Ordering) → is_le o ≡ false → o ≡ Greater
 not_le Greater h = refl
 not_le o h = cc
 
-up_below : (last key : List ℕ) (row : List ℕ × List ℕ) → key_cmp last key ≡ Less → UpTo last row → IsBelow key row
-up_below last key row less (inl same) = rw same less
-up_below last key row less (inr below) = nat_list_cmp_total.trans row.0 last key below less
-
 -- a key that is above the last is above all
 all_below : (limit : ℕ) (rows : List (List ℕ × List ℕ)) (key : List ℕ) → Sound limit rows → is_not_above (last_key rows) key ≡ false → All (IsBelow key) rows
 all_below limit rows key sound higher =
-    elim (last_key rows) as (λ k. last_key rows ≡ k → is_not_above k key ≡ false → All (IsBelow key) rows) [
-      | None ↦ λ none h. subst (All (IsBelow key)) (sym (no_rows rows none)) (All-nil (IsBelow key))
-      | Some last ↦ λ is h. All-weaker (UpTo last) (IsBelow key) (λ row up. up_below last key row ((turned key last).0 (not_le (key_cmp key last) h)) up) rows (sound.up last is)
-    ] refl higher
+    elim (last_key rows) as (λ k. MatchOption k (rows ≡ []) (λ last. All (UpTo last) rows) → is_not_above k key ≡ false → All (IsBelow key) rows) [
+      | None ↦ λ none h. subst (All (IsBelow key)) (sym none) (All-nil (IsBelow key))
+      | Some last ↦ λ up h.
+          let less = (turned key last).0 (not_le (key_cmp key last) h) in
+          All-weaker (UpTo last) (IsBelow key) (λ row up. elim up [ inl same ↦ rw same less | inr below ↦ nat_list_cmp_total.trans row.0 last key below less ]) rows up
+    ] sound.up higher
 
 push : (limit : ℕ) (rows : List (List ℕ × List ℕ)) (key value : List ℕ) → Sound limit rows → is_not_above (last_key rows) key ≡ false → nat_le limit (length rows) ≡ false → Sound limit (rows ++ (key, value) ∷ [])
 push limit rows key value sound higher room =
@@ -212,11 +201,7 @@ push limit rows key value sound higher room =
     record {
       rises = all_pairs_push (λ a b. key_cmp a.0 b.0 ≡ Less) rows (key, value) sound.rises (λ k d within. All-get_or (IsBelow key) rows k d within below);
       few = omega (arith, leb-false limit (length rows) room, length-append rows ((key, value) ∷ []));
-      up = λ last is.
-          let here : All (UpTo key) (rows ++ (key, value) ∷ []) = All-push (UpTo key) rows (key, value) (All-weaker (IsBelow key) (UpTo key) (λ row less. inr less) rows below) (inl refl) in
-          let known = last_more rows (key, value) in
-          let same : key ≡ last = cc in
-          subst (λ k. All (UpTo k) (rows ++ (key, value) ∷ [])) same here;
+      up = rw (last_more rows (key, value)) (All-push (UpTo key) rows (key, value) (All-weaker (IsBelow key) (UpTo key) (λ row less. inr less) rows below) (inl refl));
     }
 
 no_test : (a b c : Bool) (x y z : Word) → (if a then Some x else if b then Some y else if c then Some z else None) ≡ None → (b ≡ false) × (c ≡ false)
@@ -241,7 +226,7 @@ sound_from shape before (line ∷ lines) sound =
 
 -- the rows of a list are sound
 pub sound_rows : (shape : Shape) (lines : List Line) → Sound shape.limit (rows_said shape (lines_before_word shape [] lines))
-sound_rows shape lines = sound_from shape [] lines (record { rises = λ i j d before within. absurd (omega (arith, within)); few = omega arith; up = λ last is. cc })
+sound_rows shape lines = sound_from shape [] lines (record { rises = λ i j d before within. absurd (omega (arith, within)); few = omega arith; up = refl })
 
 -- ---- the rows that lines say fit the shape
 
@@ -259,17 +244,13 @@ row_fits : (shape : Shape) (words : List (List ℕ)) → Fit shape (row_said sha
 row_fits shape (key ∷ value ∷ []) = pair_fits shape key value
 row_fits shape words = All-nil (PairFits shape)
 
-number_fits : (shape : Shape) (t : Bool) (number : ℕ) → Fit shape (if t then End number else Other)
-number_fits shape true number = All-nil (PairFits shape)
-number_fits shape false number = All-nil (PairFits shape)
-
-end_fits : (shape : Shape) (words : List (List ℕ)) → Fit shape (end_said words)
-end_fits shape (word ∷ []) = number_fits shape (is_number 10 word) (number_of word)
-end_fits shape words = All-nil (PairFits shape)
-
 if_fits : (shape : Shape) (t : Bool) (first second : Said) → Fit shape first → Fit shape second → Fit shape (if t then first else second)
 if_fits shape true first second one other = one
 if_fits shape false first second one other = other
+
+end_fits : (shape : Shape) (words : List (List ℕ)) → Fit shape (end_said words)
+end_fits shape (word ∷ []) = if_fits shape (is_number 10 word) (End (number_of word)) Other (All-nil (PairFits shape)) (All-nil (PairFits shape))
+end_fits shape words = All-nil (PairFits shape)
 
 words_fit : (shape : Shape) (words : List (List ℕ)) → Fit shape (words_said shape words)
 words_fit shape [] = All-nil (PairFits shape)
@@ -315,21 +296,15 @@ pair_words : (key value : List ℕ) → IsWord key → IsWord value → words_of
 pair_words key value first second =
     slice_split_at is_space key 32 value (no_space key first) refl ∙ ap (λ rest. key ∷ rest) (slice_split_none is_space value (no_space value second))
 
-row_words : (rest : List ℕ) → words_of (codes "row " ++ rest) ≡ codes "row" ∷ words_of rest
-row_words rest = refl
-
 key_tested : (shape : Shape) (key : List ℕ) → IsKeyWord shape key → is_key shape key ≡ true
 key_tested shape key h = and_from (nat_le 1 (length key)) (nat_le (length key) shape.key_limit) (le-leb 1 (length key) h.1) (le-leb (length key) shape.key_limit h.2)
-
-value_tested : (shape : Shape) (value : List ℕ) → IsValueWord shape value → is_value shape value ≡ true
-value_tested shape value h = le-leb (length value) shape.value_limit h.1
 
 -- the line that a row is printed as is that row
 pub a_printed_row : (shape : Shape) (key value : List ℕ) → IsKeyWord shape key → IsValueWord shape value → said shape (Text (codes "row " ++ key ++ 32 ∷ value)) ≡ Row key value
 a_printed_row shape key value first second =
     cond-false (list_any is_zero (codes "row " ++ pair_text key value)) Other (words_said shape (words_of (codes "row " ++ pair_text key value))) (pair_has_no_zero key value first.0 second.0)
-    ∙ (ap (words_said shape) (row_words (pair_text key value) ∙ ap (λ words. codes "row" ∷ words) (pair_words key value first.0 second.0))
-    ∙ cond-true (is_key shape key && is_value shape value) (Row key value) Other (and_from (is_key shape key) (is_value shape value) (key_tested shape key first) (value_tested shape value second)))
+    ∙ (ap (λ words. words_said shape (codes "row" ∷ words)) (pair_words key value first.0 second.0)
+    ∙ cond-true (is_key shape key && is_value shape value) (Row key value) Other (and_from (is_key shape key) (is_value shape value) (key_tested shape key first) (le-leb (length value) shape.value_limit second.1)))
 
 -- ---- what a line says, as its words are taken and tested one by one
 

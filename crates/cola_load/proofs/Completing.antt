@@ -11,6 +11,7 @@ use Rattle.cola_run.specs.Store.{beside, Beside}
 use Rattle.cola_load.specs.declared.fault.GrowFault.{GrowFault}
 use Rattle.cola_load.specs.declared.fault.GrowFault.TheVariants.{Small, NotStore, NotClosed, Fewer, OutOfMemory, BadCell, NotEmpty, Disorder, Device}
 use Rattle.cola_load.specs.Growing.{BothCalm}
+use Rattle.cola_load.specs.Grow as grow
 use Rattle.cola_load.specs.Grow.{IsFor, Copies, IsSpent, HasCopied, Grows, grow_reads, HasKeys, IsForNone, IsLeftHeadless, HasStopped, Uncalled, NotBegun, Headless, NotFinished, MayHaveHeader, IsCountOrFull, IsFileOf}
 use Rattle.std.specs.FinMap as finite
 use Rattle.std.proofs.lemmas.List.{length-map}
@@ -78,23 +79,19 @@ module _ (header : Fields) (bytes : List ℕ) (m : Map) (stands : HeaderStandsFo
 
   not-small : IsSmall bytes → ⊥
   not-small (inl short) =
-      let whole : file_size header.format header.bottom ≤ length bytes = stands.whole in
-      omega (arith, short, whole, header_fits header.format header.bottom stands.spelled.sound.bottom_fits.three)
+      omega (arith, short, stands.whole, header_fits header.format header.bottom stands.spelled.sound.bottom_fits.three)
   not-small (inr (other, (spelled, few))) =
       let whole : file_size other.format other.bottom ≤ length bytes = subst (λ (f : Fields). file_size f.format f.bottom ≤ length bytes) (spelling-one header other (take 512 bytes) stands.spelled spelled) stands.whole in
       omega (arith, few, whole)
 
   not-in_use : IsInUse bytes → ⊥
   not-in_use is =
-      let same : header ≡ is.0 = spelling-one header is.0 (take 512 bytes) stands.spelled is.1.0.spelled in
-      let no : true ≡ false = sym stands.closed ∙ (ap (λ (f : Fields). f.closed) same ∙ is.1.1) in cc
+      let no : true ≡ false = sym stands.closed ∙ (ap (λ (f : Fields). f.closed) (spelling-one header is.0 (take 512 bytes) stands.spelled is.1.0.spelled) ∙ is.1.1) in cc
 
   not-fewer : (keys fewer : ℕ) → count m ≤ keys → keys < fewer → HasKeys fewer bytes → ⊥
   not-fewer keys fewer few more has =
-      let same : header ≡ has.0 = same-header has.0 has.1.0 in
-      let counted : header.count ≡ count m = stands.counted in
-      let is : header.count ≡ fewer = ap (λ (f : Fields). f.count) same ∙ has.1.1 in
-      omega (arith, counted, is, few, more)
+      let is : header.count ≡ fewer = ap (λ (f : Fields). f.count) (same-header has.0 has.1.0) ∙ has.1.1 in
+      omega (arith, stands.counted, is, few, more)
 
   module _ {D E : Type 0} (d : device.Ghosts D) (e : device.Ghosts E) (from from_now : D) (to to_now : E) (ticks ticks_now keys block_exp : ℕ) (from-is : d.bytes from ≡ Some bytes) where
     stands-here : (result : Result ℕ GrowFault) (h : HasCopied d e from from_now to to_now ticks ticks_now keys block_exp result) → HeaderStandsFor (fields_of h.header) bytes m
@@ -149,53 +146,6 @@ module _ (header : Fields) (bytes : List ℕ) (m : Map) (stands : HeaderStandsFo
 
 -- ---- what a refusal leaves
 
-module _ {D E : Type 0} (d : device.Ghosts D) (e : device.Ghosts E) (from from_now : D) (to to_now : E) (ticks ticks_now keys block_exp : ℕ) where
-  abbrev Leaves : GrowFault → Type 0
-  Leaves fault = (e.bytes to_now ≡ e.bytes to) ⊎ (IsLeftHeadless e to to_now ⊎ MayHaveHeader e to to_now keys block_exp fault)
-
-  uncalled : (fault : GrowFault) → to_now ≡ to → Leaves fault
-  uncalled fault is = inl (ap (λ (x : E). e.bytes x) is)
-
-  stopped : (header : Header) (geometry : Geometry) (told : Option (List ℕ)) → IsFor keys block_exp header.geometry.format geometry → HasStopped e header geometry told to to_now → Leaves Device
-  stopped header geometry told is_for (Uncalled is) = uncalled Device is
-  stopped header geometry told is_for (NotBegun n) = elim n.failed.left [
-    | inl same ↦ inl same
-    | inr partly ↦ inr (inr (record {
-      fault_is = refl;
-      cause = n.failed.cause;
-      format = header.geometry.format;
-      geometry = geometry;
-      is_for = is_for;
-      last = header.last;
-      left = inl (record { partly = partly; spends = n.spends });
-    }))
-  ]
-  stopped header geometry told is_for (Headless none) = inr (inl none)
-  stopped header geometry told is_for (NotFinished rows failed) = inr (inr (record {
-    fault_is = refl;
-    cause = failed.cause;
-    format = header.geometry.format;
-    geometry = geometry;
-    is_for = is_for;
-    last = header.last;
-    left = inr (rows, record { was_empty = failed.was_empty; left = failed.left });
-  }))
-
-  pub headless-left : (fault : GrowFault) → Grows d e from from_now to to_now ticks ticks_now keys block_exp (Err fault) → Leaves fault
-  headless-left (Fewer count) h = uncalled (Fewer count) h.0.untouched
-  headless-left OutOfMemory h = inl h.copies.bytes_stay
-  headless-left (BadCell number) h = elim h.copies.left [
-    | inl same ↦ uncalled (BadCell number) same
-    | inr none ↦ inr (inl none)
-  ]
-  headless-left NotEmpty h = inl h.copies.bytes_stay
-  headless-left (Disorder number) h = inr (inl h.copies.left)
-  headless-left Device (inl h) = uncalled Device h.untouched
-  headless-left Device (inr h) = stopped h.header h.geometry (d.bytes from) h.is_for h.copies
-  headless-left fault h = uncalled fault h.untouched
-
--- ---- what growing a file answers, in plain terms
-
 some-both : {A : Type 0} (t : Option A) (P Q : A → Type 0) → IfSome t P → IfSome t Q → IfSome t (λ x. P x × Q x)
 some-both None P Q p q = tt
 some-both (Some x) P Q p q = (p, q)
@@ -207,6 +157,39 @@ beside-same geometry (Some x) None e = cc
 beside-same geometry (Some x) (Some y) e = ap (λ (o : Option Beside). unwrap_or o (beside geometry x)) e
 
 module _ {D E : Type 0} (d : device.Ghosts D) (e : device.Ghosts E) (from from_now : D) (to to_now : E) (ticks ticks_now keys block_exp : ℕ) where
+  abbrev Leaves : GrowFault → Type 0
+  Leaves fault = (e.bytes to_now ≡ e.bytes to) ⊎ (IsLeftHeadless e to to_now ⊎ MayHaveHeader e to to_now keys block_exp fault)
+
+  -- a fault of the new file's own device may leave a header
+  may-have : (header : Header) (geometry : Geometry) → IsFor keys block_exp header.geometry.format geometry → Rose (e.counts to).faults (e.counts to_now).faults →
+      grow.IsNotLaidOut e to to_now geometry header.last ⊎ ((rows : List Row) × grow.IsNotWhole e to to_now geometry header.last rows) → Leaves Device
+  may-have header geometry is_for cause left =
+      inr (inr (record { fault_is = refl; cause = cause; format = header.geometry.format; geometry = geometry; is_for = is_for; last = header.last; left = left }))
+
+  stopped : (header : Header) (geometry : Geometry) (told : Option (List ℕ)) → IsFor keys block_exp header.geometry.format geometry → HasStopped e header geometry told to to_now → Leaves Device
+  stopped header geometry told is_for (Uncalled is) = inl (ap e.bytes is)
+  stopped header geometry told is_for (NotBegun n) = elim n.failed.left [
+    | inl same ↦ inl same
+    | inr partly ↦ may-have header geometry is_for n.failed.cause (inl (record { partly = partly; spends = n.spends }))
+  ]
+  stopped header geometry told is_for (Headless none) = inr (inl none)
+  stopped header geometry told is_for (NotFinished rows failed) = may-have header geometry is_for failed.cause (inr (rows, record { was_empty = failed.was_empty; left = failed.left }))
+
+  pub headless-left : (fault : GrowFault) → Grows d e from from_now to to_now ticks ticks_now keys block_exp (Err fault) → Leaves fault
+  headless-left (Fewer count) h = inl (ap e.bytes h.0.untouched)
+  headless-left OutOfMemory h = inl h.copies.bytes_stay
+  headless-left (BadCell number) h = elim h.copies.left [
+    | inl same ↦ inl (ap e.bytes same)
+    | inr none ↦ inr (inl none)
+  ]
+  headless-left NotEmpty h = inl h.copies.bytes_stay
+  headless-left (Disorder number) h = inr (inl h.copies.left)
+  headless-left Device (inl h) = inl (ap e.bytes h.untouched)
+  headless-left Device (inr h) = stopped h.header h.geometry (d.bytes from) h.is_for h.copies
+  headless-left fault h = inl (ap e.bytes h.untouched)
+
+  -- ---- what growing a file answers, in plain terms
+
   abbrev Has : Result ℕ GrowFault → Type 0
   Has result = HasCopied d e from from_now to to_now ticks ticks_now keys block_exp result
 

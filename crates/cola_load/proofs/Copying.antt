@@ -1,9 +1,8 @@
 -- The pairs of a file that are copied to a new one: one pair more of a walk, all of them, and what that answers where the file stands for a map.
-use Rattle.std.proofs.Common.{Bool, false, ◌≡◌, inl, inr, ℕ, ◌+◌, ◌-◌, ◌≤◌, ◌<◌, List, [], ◌∷◌, ◌++◌, length, map, Option, Some, None, Result, Ok, Err, refl, sym, ap, subst, ◌∙◌, arith, length-append, zero, suc, ◌%◌, drop, All, nat_le, ◌&&◌, true, cond, T, filter, Less, Ordering, min, ◌==◌, if◌then◌else◌}
+use Rattle.std.proofs.Common.{Bool, false, ◌≡◌, inl, inr, ℕ, ◌+◌, ◌-◌, ◌≤◌, ◌<◌, List, [], ◌∷◌, ◌++◌, length, map, Option, Some, None, Result, Ok, Err, refl, sym, ap, subst, ◌∙◌, arith, zero, suc, ◌%◌, take, get_or, All, nat_le, ◌&&◌, true, cond, T, filter, Less, Ordering, ◌==◌, if◌then◌else◌}
 use Rattle.std.specs.Prelude.{IfSome, IsErrAnd, OnOk}
-use Rattle.std.proofs.lemmas.List.{append_assoc, append-nil, map-append, length-map}
+use Rattle.std.proofs.lemmas.List.{append_assoc, append-nil, map-append, length-append, length-map, take_more, take_all}
 use Rattle.std.proofs.lemmas.Option.{IfSome_then}
-use Rattle.std.proofs.Math.ListN.{drop_of_length-le}
 use Rattle.cola_outside.specs.Told.{Both}
 use Rattle.cola_cell.specs.declared.cell.Run.{Run}
 use Rattle.cola_cell.specs.declared.fault.ReadFault.{ReadFault}
@@ -13,33 +12,29 @@ use Rattle.cola_cursor.specs.declared.cursor.Cursor.{Cursor}
 use Rattle.cola_cursor.specs.declared.line.Line.{Line}
 use Rattle.cola_cursor.specs.Results.{LinesCause, HasBadLine}
 use Rattle.cola_cursor.specs.Seeking.{HasBadRun, LevelsRise, RunsCause}
-use Rattle.cola_cursor.specs.Standing.{Ahead, TakesNext, LinesPassed, AnyHasValue, runs_of, AreSearched}
+use Rattle.cola_cursor.specs.Standing.{Ahead, TakesNext, LinesPassed, AnyHasValue, IsPassed, none_hidden, answered_key, runs_of, AreSearched}
 use Rattle.cola_cursor.specs.Lines.{LineFits}
 use Rattle.cola_cursor.specs.Way.{at}
 use Rattle.cola_cursor.proofs.Keys.{at_within, keys_alike}
 use Rattle.cola_runs.proofs.Order.{all_append}
 use Rattle.std.specs.List.{AllByRecursion}
 use Rattle.cola_device.specs.declared.counts.Counts.{Counts}
-use Rattle.cola_device.specs.Bytes.{HasRange}
 use Rattle.cola_device.specs.Counts.{Called}
 use Rattle.cola_opening.specs.Counted.{Spends}
 use Rattle.cola_opening.proofs.Spending.{spends-then, spends-more, called-spends}
-use Rattle.cola_run.specs.Cells.{file_bytes}
 use Rattle.cola_layout.specs.declared.geometry.Geometry.{Geometry}
 use Rattle.cola_load.specs.declared.fault.GrowFault.{GrowFault}
 use Rattle.cola_load.specs.declared.growing.Filling.{Filling}
 use Rattle.cola_load.specs.declared.fault.GrowFault.TheVariants.{BadCell, Disorder, Device}
 use Rattle.cola_load.specs.Filled.{Row, row_of_entry, rows_of, AreRows, IsFilled}
 use Rattle.cola_load.specs.Loading.{Loading, HoldsRows, IsHeadless, StaysInFront, Pushes, last_key, full_blocks, IsAbove, IsUnfinished, Finishes, HasBegun, Begins}
-use Rattle.cola_load.proofs.FilledMaps.{is_true}
 use Rattle.cola_load.proofs.Blocks.{blocks-rise}
 use Rattle.cola_load.proofs.Placing.{some-given}
 use Rattle.cola_load.proofs.Saving.{last-is, headless-then}
-use Rattle.cola_load.specs.Growing.{IsValueOf, pair_of, Breaks, IsFillingOf, GaveAll, GaveThen, IsCopied, IsStopped, CopiesNext, CopiesAll, WritesOne, WritesNext, WritesRows, unread_as, visible_runs, runs_in, least, AreValuesOf, IsWalked, Walks, OfPairs, IsBegun}
-use Rattle.std.proofs.Math.Seq.{drop-cons}
+use Rattle.cola_load.specs.Growing.{IsValueOf, pair_of, Breaks, IsFillingOf, GaveAll, IsCopied, IsStopped, CopiesNext, CopiesAll, WritesOne, WritesNext, WritesRows, unread_as, visible_runs, runs_in, least, AreValuesOf, IsWalked, Walks, OfPairs, IsBegun}
 use Rattle.std.proofs.lemmas.List.Elements.{All-from_recursion, All-same, All-head, All-tail}
 use Rattle.cola_clock.specs.Clock.{period, visible_slot}
-use Rattle.cola_clock.specs.Marks.{Marks, AreAllMarks, marks_at, no_marks, Marks as LevelMarks}
+use Rattle.cola_clock.specs.Marks.{Marks, AreAllMarks, marks_at, Marks as LevelMarks}
 use Rattle.cola_layout.specs.declared.header.Header.{Header}
 use Rattle.cola_layout.specs.declared.marks.Marks as layout
 use Rattle.cola_layout.specs.Marks.{all_numbers, marks_of}
@@ -53,6 +48,7 @@ use Rattle.std.specs.Cmp.{nat_cmp_is}
 use Rattle.std.proofs.lemmas.Bool.{and_parts, leb-true}
 use Rattle.std.specs.Cmp.Lexicographic.{nat_list_cmp_total}
 use Rattle.cola_cell.specs.declared.cell.Cell.{Cell}
+use Rattle.cola_cell.specs.declared.format.Format.{Format}
 use Rattle.cola_cell.specs.Decoded.{decoded}
 use Rattle.cola_cell.specs.Flat.{spot_of}
 use Rattle.cola_cell.specs.Listed.{Stands}
@@ -66,7 +62,7 @@ use Rattle.cola_laws.specs.Slots.{levels_of}
 use Rattle.cola_laws.proofs.Facts.{visible-sampled}
 use Rattle.cola_pairs.specs.Live.{live, between}
 use Rattle.cola_pairs.proofs.LivePairs.{live_entries}
-use Rattle.cola_pairs.proofs.Order.{first, second, all_change}
+use Rattle.cola_pairs.proofs.Order.{first, second, holds as is_true, all_change}
 use Rattle.cola_run.specs.Saving as run
 use Rattle.cola_runs.specs.Cells.{key_of, Entry, Value}
 use Rattle.cola_runs.specs.Search as laws
@@ -104,12 +100,11 @@ bad-run falls held number (line ∷ lines) (inr b) = inr (bad-run falls held num
 -- a value that was passed stands in a run
 pub passed-value : (falls now : Bool) (held other : Held) (answered : Option (List ℕ)) (hidden : List ℕ → Type 0) (row : Row) (olds news : List Line) → LinesPassed falls held answered hidden olds news → AllByRecursion (LineFits now other) news →
     AnyHasValue falls held row.key row.value row.stamp olds news → IsValueOf held.spots (runs_of olds) row
-passed-value falls now held other answered hidden row [] news p fits h = absurd h
-passed-value falls now held other answered hidden row (old ∷ olds) [] p fits h = absurd h
 passed-value falls now held other answered hidden row (old ∷ olds) (new ∷ news) p fits (inl h) =
     let n : new.run.len ≡ old.run.len = ap (λ (r : Run). r.len) p.0.run_is in
     inl (record { index = at falls old.run.len h.index; within = at_within falls old.run.len h.index (omega (arith, n, h.before, fits.0.place_in)); young = h.young; link = h.link; told = h.told })
 passed-value falls now held other answered hidden row (old ∷ olds) (new ∷ news) p fits (inr h) = inr (passed-value falls now held other answered _ row olds news p.1 fits.1 h)
+passed-value falls now held other answered hidden row olds news p fits h = absurd h
 
 -- ---- a file that has no header yet
 
@@ -118,76 +113,74 @@ no-header loading told rows holds = IfSome_then told holds (λ bytes h. h.no_hea
 
 -- nor after a block behind the front was refused
 pub no-header-then : (loading : Loading) (told now : Option (List ℕ)) (rows : List Row) → IfSome told (λ bytes. HoldsRows loading bytes rows) → Both told now (StaysInFront loading.geometry) → IfSome now IsHeadless
-no-header-then loading told now rows holds stays =
-    some-given told now holds stays (λ x y held s. headless-then loading.geometry x y s held.no_header)
+no-header-then loading told now rows holds stays = some-given told now holds stays (λ x y held s. headless-then loading.geometry x y s held.no_header)
 
 -- ---- one more pair
 
-module _ (held now : Held) (same : now ≡ held) (begun old new : Cursor) (runs : runs_of new.lines.items ≡ runs_of old.lines.items) (loading : Loading) (told : Option (List ℕ)) (rows : List Row)
-    (copied : IsCopied held begun old loading told rows) where
-  pub next-none : ((pairs : List (List ℕ × Stamped)) → Ahead held old pairs → TakesNext (Ahead now new) pairs (Ok None)) → IsCopied held begun new loading told rows × GaveAll held begun rows
-  next-none takes = (
-    record {
-      runs_are = runs ∙ copied.runs_are;
-      gave = λ pairs ahead.
-          let before = copied.gave pairs ahead in
-          let took = takes before.0 before.1.1 in
-          ([], (before.1.0 ∙ ap (λ (others : List (List ℕ × Stamped)). map pair_of rows ++ others) took.0, subst (λ (h : Held). Ahead h new []) same took.1));
-      many = copied.many;
-      key_is = copied.key_is;
-      holds = copied.holds;
-      given = copied.given;
-    },
-    λ pairs ahead.
-        let before = copied.gave pairs ahead in
-        let took = takes before.0 before.1.1 in
-        before.1.0 ∙ ap (λ (others : List (List ℕ × Stamped)). map pair_of rows ++ others) took.0 ∙ append-nil (map pair_of rows),
-  )
+module _ {held now : Held} {begun old : Cursor} {loading : Loading} {told : Option (List ℕ)} {rows : List Row} (same : now ≡ held) (copied : IsCopied held begun old loading told rows) (new : Cursor) (answer : Option (List ℕ × List ℕ × ℕ))
+    (passes : LinesPassed old.falls held (answered_key answer) none_hidden old.lines.items new.lines.items) (takes : (pairs : List (List ℕ × Stamped)) → Ahead held old pairs → TakesNext (Ahead now new) pairs (Ok answer)) where
+  runs-stay : runs_of new.lines.items ≡ runs_of begun.lines.items
+  runs-stay = same-runs old.falls held (answered_key answer) none_hidden old.lines.items new.lines.items passes ∙ copied.runs_are
 
-  module _ (row : Row) (value : IsValueOf held.spots (runs_of old.lines.items) row)
-      (takes : (pairs : List (List ℕ × Stamped)) → Ahead held old pairs → TakesNext (Ahead now new) pairs (Ok (Some (row.key, row.value, row.stamp)))) where
-    given-here : IsValueOf held.spots (runs_of begun.lines.items) row
-    given-here = subst (λ (rs : List Run). IsValueOf held.spots rs row) copied.runs_are value
+  -- the pairs that were ahead are the rows so far, and those of which this answer takes the first
+  took : (o : Option (List ℕ × List ℕ × ℕ)) → answer ≡ o → (pairs : List (List ℕ × Stamped)) → Ahead held begun pairs →
+      (left : List (List ℕ × Stamped)) × ((pairs ≡ map pair_of rows ++ left) × TakesNext (Ahead held new) left (Ok o))
+  took o is pairs ahead =
+      let before = copied.gave pairs ahead in
+      (before.0, (before.1.0, subst (λ (x : Option (List ℕ × List ℕ × ℕ)). TakesNext (Ahead held new) before.0 (Ok x)) is (subst (λ (h : Held). TakesNext (Ahead h new) before.0 (Ok answer)) same (takes before.0 before.1.1))))
 
-    next-then : GaveThen held begun rows row
-    next-then pairs ahead =
-        let before = copied.gave pairs ahead in
-        let took = takes before.0 before.1.1 in
-        (took.0, before.1.0 ∙ ap (λ (others : List (List ℕ × Stamped)). map pair_of rows ++ others) took.1)
+  pub next-none : answer ≡ None → IsCopied held begun new loading told rows × GaveAll held begun rows
+  next-none is =
+      let whole : IsCopied held begun new loading told rows = record {
+        runs_are = runs-stay;
+        gave = λ pairs ahead. let t = took None is pairs ahead in ([], (t.1.0 ∙ ap (λ (left : List (List ℕ × Stamped)). map pair_of rows ++ left) t.1.1.0, t.1.1.1));
+        many = copied.many;
+        key_is = copied.key_is;
+        holds = copied.holds;
+        given = copied.given;
+      } in
+      (whole, λ pairs ahead. (whole.gave pairs ahead).1.0 ∙ append-nil (map pair_of rows))
 
-    pub next-stops : (filling : Filling) → IsFillingOf filling loading → Breaks filling.geometry filling.last filling.rows filling.key row →
+  module _ (pair : List ℕ × List ℕ × ℕ) (is : answer ≡ Some pair) (fits : AllByRecursion (LineFits new.falls now) new.lines.items) (passed : IsPassed old.falls held old.lines.items new.lines.items answer) where
+    abbrev the-row : Row
+    the-row = record { key = pair.0; value = pair.1; stamp = pair.2 }
+
+    given-here : IsValueOf held.spots (runs_of begun.lines.items) the-row
+    given-here = subst (λ (rs : List Run). IsValueOf held.spots rs the-row) copied.runs_are
+        (passed-value old.falls new.falls held now (answered_key answer) none_hidden the-row old.lines.items new.lines.items passes fits (subst (IsPassed old.falls held old.lines.items new.lines.items) is passed))
+
+    pub next-stops : (filling : Filling) → IsFillingOf filling loading → Breaks filling.geometry filling.last filling.rows filling.key the-row →
         IsStopped held begun filling.geometry filling.last told rows (filling.rows + 1)
     next-stops filling fills breaks =
         let many : filling.rows ≡ length rows = sym fills.rows_are ∙ copied.many in
         let key : filling.key ≡ last_key rows = sym fills.key_is ∙ copied.key_is in
         record {
-          row = row;
+          row = the-row;
           number_is = ap (λ (n : ℕ). n + 1) many;
-          breaks = subst (λ (n : ℕ). Breaks filling.geometry filling.last n (last_key rows) row) many (subst (λ (k : Option (List ℕ)). Breaks filling.geometry filling.last filling.rows k row) key breaks);
-          gave = next-then;
+          breaks = subst (λ (n : ℕ). Breaks filling.geometry filling.last n (last_key rows) the-row) many (subst (λ (k : Option (List ℕ)). Breaks filling.geometry filling.last filling.rows k the-row) key breaks);
+          gave = λ pairs ahead. let t = took (Some pair) is pairs ahead in (t.1.1.0, t.1.0 ∙ ap (λ (left : List (List ℕ × Stamped)). map pair_of rows ++ left) t.1.1.1);
           given = (given-here, copied.given);
           headless = no-header loading told rows copied.holds;
         }
 
-    pub next-copied : {T : Type 0} (E : Type 0) (done : T) (after : Loading) (told_now : Option (List ℕ)) → Both told told_now (Pushes {T = T} {E = E} (Ok done) loading after row) →
-        after.rows ≡ loading.rows + 1 → after.key ≡ Some row.key → IsCopied held begun new after told_now (rows ++ row ∷ [])
+    pub next-copied : {T : Type 0} (E : Type 0) (done : T) (after : Loading) (told_now : Option (List ℕ)) → Both told told_now (Pushes {T = T} {E = E} (Ok done) loading after the-row) →
+        after.rows ≡ loading.rows + 1 → after.key ≡ Some the-row.key → IsCopied held begun new after told_now (rows ++ the-row ∷ [])
     next-copied E done after told_now pushes more key = record {
-      runs_are = runs ∙ copied.runs_are;
+      runs_are = runs-stay;
       gave = λ pairs ahead.
-          let before = copied.gave pairs ahead in
-          let took = takes before.0 before.1.1 in (
-            took.0,
+          let t = took (Some pair) is pairs ahead in (
+            t.1.1.0,
             (
-              before.1.0 ∙ ap (λ (others : List (List ℕ × Stamped)). map pair_of rows ++ others) took.1
-                  ∙ sym (append_assoc (map pair_of rows) (pair_of row ∷ []) took.0)
-                  ∙ ap (λ (ps : List (List ℕ × Stamped)). ps ++ took.0) (sym (map-append pair_of rows (row ∷ []))),
-              subst (λ (h : Held). Ahead h new took.0) same took.2,
+              t.1.0 ∙ ap (λ (left : List (List ℕ × Stamped)). map pair_of rows ++ left) t.1.1.1
+                  ∙ sym (append_assoc (map pair_of rows) (pair_of the-row ∷ []) t.1.1.0)
+                  ∙ ap (λ (ps : List (List ℕ × Stamped)). ps ++ t.1.1.0) (sym (map-append pair_of rows (the-row ∷ []))),
+              t.1.1.2,
             ),
           );
-      many = let e = copied.many in let l = length-append rows (row ∷ []) in omega (arith, more, e, l);
-      key_is = key ∙ sym (last-is rows row);
+      many = let e = copied.many in let l = length-append rows (the-row ∷ []) in omega (arith, more, e, l);
+      key_is = key ∙ sym (last-is rows the-row);
       holds = some-given told told_now copied.holds pushes (λ x y held p. p rows held);
-      given = all_append (IsValueOf held.spots (runs_of begun.lines.items)) rows (row ∷ []) copied.given (given-here, tt);
+      given = all_append (IsValueOf held.spots (runs_of begun.lines.items)) rows (the-row ∷ []) copied.given (given-here, tt);
     }
 
 -- ---- a refusal
@@ -195,10 +188,8 @@ module _ (held now : Held) (same : now ≡ held) (begun old new : Cursor) (runs 
 pub next-unread : (held : Held) (begun old new : Cursor) (loading after : Loading) (told : Option (List ℕ)) (rows : List Row) (geometry : Geometry) (last before now : ℕ) (fault : ReadFault) (result : GrowFault) →
     result ≡ unread_as fault → LinesCause old.falls held old.lines.items before now fault → IsCopied held begun old loading told rows → CopiesNext held begun geometry last rows new after told (Err result)
 next-unread held begun old new loading after told rows geometry last before now (read.BadCell number) result is cause copied =
-    subst (λ (r : GrowFault). CopiesNext held begun geometry last rows new after told (Err r)) (sym is)
-    (subst (HasBadRun held number) copied.runs_are (bad-run old.falls held number old.lines.items cause), no-header loading told rows copied.holds)
-next-unread held begun old new loading after told rows geometry last before now read.Device result is cause copied =
-    subst (λ (r : GrowFault). CopiesNext held begun geometry last rows new after told (Err r)) (sym is) (no-header loading told rows copied.holds)
+    rw is (subst (HasBadRun held number) copied.runs_are (bad-run old.falls held number old.lines.items cause), no-header loading told rows copied.holds)
+next-unread held begun old new loading after told rows geometry last before now read.Device result is cause copied = rw is (no-header loading told rows copied.holds)
 
 -- a fault that is handed on
 pub refused-as : {T : Type 0} (result : Result T GrowFault) (fault : GrowFault) (P : Result T GrowFault → Type 0) → IsErrAnd result (λ e. e ≡ fault) → P (Err fault) → P result
@@ -210,55 +201,36 @@ refused-as (Err other) fault P is h = subst (λ (f : GrowFault). P (Err f)) (sym
 pub pushed-spends : {T E : Type 0} {result : Result T E} {before now : Counts} (filling : Filling) (loading : Loading) → IsFillingOf filling loading → filling.rows < filling.geometry.keys →
     Called before now 0 (full_blocks loading.geometry (loading.rows + 1) - full_blocks loading.geometry loading.rows) 0 result →
     (filling.rows < filling.geometry.keys) × Spends before now 0 (full_blocks filling.geometry (filling.rows + 1) - full_blocks filling.geometry filling.rows) 0
-pushed-spends filling loading fills room called =
-    let writes : Geometry → ℕ → ℕ = λ g n. full_blocks g (n + 1) - full_blocks g n in
-    let same : writes loading.geometry loading.rows ≡ writes filling.geometry filling.rows =
-    ap (λ (g : Geometry). writes g loading.rows) fills.geometry_is ∙ ap (λ (n : ℕ). writes filling.geometry n) fills.rows_are in
-    (room, spends-more (called-spends called) (omega arith) (omega (arith, same)) (omega arith))
+pushed-spends filling loading fills room called = (room, rw (← fills.geometry_is, ← fills.rows_are) (called-spends called))
 
 -- ---- all pairs
 
-pub begun-copied : (held : Held) (cursor : Cursor) (filling : Filling) (loading : Loading) (told : Option (List ℕ)) → IsFillingOf filling loading → filling.rows ≡ 0 → filling.key ≡ None →
-    IfSome told (λ bytes. HoldsRows loading bytes []) → IsCopied held cursor cursor loading told []
-begun-copied held cursor filling loading told fills none no_key holds =
-    record { runs_are = refl; gave = λ pairs ahead. (pairs, (refl, ahead)); many = fills.rows_are ∙ none; key_is = fills.key_is ∙ no_key; holds = holds; given = tt }
-
-pub held-range : (loading : Loading) (geometry : Geometry) (told : Option (List ℕ)) (rows : List Row) → loading.geometry ≡ geometry → IfSome told (λ bytes. HoldsRows loading bytes rows) →
-    HasRange told 0 (file_bytes geometry)
-held-range loading geometry told rows same holds = IfSome_then told holds (λ bytes h. let e = h.size in let f : file_bytes loading.geometry ≡ file_bytes geometry = ap file_bytes same in omega (arith, e, f))
+-- what copying the next pair says behind the rows so far, where the cells stay
+pub copied-next : {held now : Held} {begun cursor : Cursor} {loading : Loading} {told : Option (List ℕ)} {rows : List Row} {result shown : Result (Option Filling) GrowFault}
+    (geometry : Geometry) (last : ℕ) (new : Cursor) (after : Loading) (told_now : Option (List ℕ)) →
+    now ≡ held → result ≡ shown → ((begun : Cursor) (rows : List Row) → IsCopied now begun cursor loading told rows → CopiesNext now begun geometry last rows new after told_now result) → IsCopied held begun cursor loading told rows →
+    CopiesNext held begun geometry last rows new after told_now shown
+copied-next {held = held} {begun = begun} {cursor = cursor} {loading = loading} {told = told} {rows = rows} {result = result} geometry last new after told_now same is copies copied =
+    subst (CopiesNext held begun geometry last rows new after told_now) is
+    (subst (λ (h : Held). IsCopied h begun cursor loading told rows → CopiesNext h begun geometry last rows new after told_now result) same (copies begun rows) copied)
 
 pub all-refused : (held : Held) (begun cursor : Cursor) (loading : Loading) (told : Option (List ℕ)) (geometry : Geometry) (last : ℕ) (rows : List Row) (fault : GrowFault) →
     CopiesNext held begun geometry last rows cursor loading told (Err fault) → CopiesAll held begun geometry last cursor loading told (Err fault)
 all-refused held begun cursor loading told geometry last rows (Disorder number) next = (rows, next)
 all-refused held begun cursor loading told geometry last rows fault next = next
 
--- a call that wrote for one row more behind those for so many, one that did so or was refused before, and one that found no pair
+-- a call that wrote for one row more behind those for so many, and one that did so or was refused before
 module _ (geometry : Geometry) (filling : Filling) (a b c : Counts) (same : filling.geometry ≡ geometry) (before : Spends a b 0 (full_blocks geometry filling.rows) 0) where
   pub writes-one : WritesOne filling b c → Spends a c 0 (full_blocks geometry (filling.rows + 1)) 0
   writes-one wrote =
-      let step : full_blocks filling.geometry (filling.rows + 1) - full_blocks filling.geometry filling.rows ≡ full_blocks geometry (filling.rows + 1) - full_blocks geometry filling.rows =
-      ap (λ (g : Geometry). full_blocks g (filling.rows + 1) - full_blocks g filling.rows) same in
-      spends-then before wrote.1 (omega arith) (omega (arith, step, blocks-rise geometry filling.rows (filling.rows + 1) (omega arith))) (omega arith)
-
-  writes-none : c ≡ b → Spends a c 0 (full_blocks geometry filling.rows + 0) 0
-  writes-none stays = subst (λ (x : Counts). Spends a x 0 (full_blocks geometry filling.rows + 0) 0) (sym stays) (spends-more before (omega arith) (omega arith) (omega arith))
-
-  few-here : filling.rows ≤ filling.geometry.keys → filling.rows ≤ geometry.keys
-  few-here few = subst (λ (g : Geometry). filling.rows ≤ g.keys) same few
+      let step = subst (λ (g : Geometry). Spends b c 0 (full_blocks g (filling.rows + 1) - full_blocks g filling.rows) 0) same wrote.1 in
+      spends-then before step (omega arith) (omega (arith, blocks-rise geometry filling.rows (filling.rows + 1) (omega arith))) (omega arith)
 
   pub writes-refused : (fault : GrowFault) → filling.rows ≤ filling.geometry.keys → WritesNext filling b c (Err fault) → WritesRows geometry a c 0 0 (Err fault)
-  writes-refused fault few (inl stays) = record { rows = filling.rows; few = few-here few; rows_are = tt; spends = writes-none stays }
+  writes-refused fault few (inl stays) = record { rows = filling.rows; few = subst (λ (g : Geometry). filling.rows ≤ g.keys) same few; rows_are = tt; spends = rw stays (spends-more before (omega arith) (omega arith) (omega arith)) }
   writes-refused fault few (inr wrote) =
       let room = subst (λ (g : Geometry). filling.rows < g.keys) same wrote.0 in
       record { rows = filling.rows + 1; few = omega (arith, room); rows_are = tt; spends = spends-more (writes-one wrote) (omega arith) (omega arith) (omega arith) }
-
-  pub writes-all : filling.rows ≤ filling.geometry.keys → c ≡ b → WritesRows geometry a c 0 0 (Ok filling.rows)
-  writes-all few stays = record { rows = filling.rows; few = few-here few; rows_are = refl; spends = writes-none stays }
-
--- all pairs were copied
-pub all-copied : (held : Held) (begun cursor : Cursor) (loading : Loading) (told : Option (List ℕ)) (rows : List Row) (count : ℕ) → loading.rows ≡ count →
-    IsCopied held begun cursor loading told rows × GaveAll held begun rows → (rows : List Row) × ((count ≡ length rows) × (IsCopied held begun cursor loading told rows × GaveAll held begun rows))
-all-copied held begun cursor loading told rows count many copied = (rows, (sym many ∙ copied.0.many, copied))
 
 -- ---- the visible runs of a header, as a cursor takes them
 
@@ -284,46 +256,32 @@ header-has header held levels =
 
 -- ---- one run more
 
--- the run of a level and those of the levels below it
-pub from-level : (t j : ℕ) (marks : List Marks) → j < length marks →
-    visible_runs t j (drop j marks) ≡ record { level = j; slot = visible_slot t j; len = (marks_at marks j).visible } ∷ visible_runs t (suc j) (drop (suc j) marks)
-from-level t j marks within = ap (visible_runs t j) (drop-cons marks j no_marks within)
+-- a run for each level
+pub runs-many : (t j : ℕ) (marks : List Marks) → length (visible_runs t j marks) ≡ length marks
+runs-many t j [] = refl
+runs-many t j (m ∷ ms) = ap suc (runs-many t (suc j) ms)
 
-pub from-end : (t j : ℕ) (marks : List Marks) → length marks ≤ j → visible_runs t j (drop j marks) ≡ []
-from-end t j marks past = ap (visible_runs t j) (drop_of_length-le marks past)
+-- the run of a level
+run-at : (t j k : ℕ) (marks : List Marks) (none : Run) → k < length marks → get_or (visible_runs t j marks) k none ≡ record { level = j + k; slot = visible_slot t (j + k); len = (marks_at marks k).visible }
+run-at t j k [] none within = absurd (omega (arith, within))
+run-at t j zero (m ∷ ms) none within = let e : j ≡ j + 0 = omega arith in ap {B = Run} (λ (n : ℕ). record { level = n; slot = visible_slot t n; len = m.visible }) e
+run-at t j (suc k) (m ∷ ms) none within =
+    let e : suc j + k ≡ j + suc k = omega arith in run-at t (suc j) k ms none (omega (arith, within)) ∙ ap {B = Run} (λ (n : ℕ). record { level = n; slot = visible_slot t n; len = (marks_at ms k).visible }) e
 
--- the visible run of a level of a header
-abbrev pub run-at : Header → ℕ → Run
-run-at header j = record { level = j; slot = visible_slot header.clock j; len = (marks_of header.levels.items j).visible }
+-- runs that were pushed, and that of a level
+pub one-more : (header : Header) (j slot : ℕ) (marks : layout.Marks) (runs : List Run) → j < header.geometry.bottom + 1 → slot ≡ visible_slot header.clock j → marks ≡ marks_of header.levels.items j →
+    runs ≡ take j (runs_in header) → runs ++ record { level = j; slot = slot; len = marks.visible } ∷ [] ≡ take (j + 1) (runs_in header)
+one-more header j slot marks runs within slot-is marks-are so_far =
+    let numbers = all_numbers header.levels.items in
+    let e : j ≡ 0 + j = omega arith in
+    let here : j < length numbers = omega (arith, within, header.one_each, numbers-length header.levels.items) in
+    let run : Run = record { level = j; slot = slot; len = marks.visible } in
+    (λ i. so_far i ++ record { level = e i; slot = (slot-is ∙ ap (visible_slot header.clock) e) i; len = (ap (λ (m : layout.Marks). m.visible) marks-are ∙ ap (λ (m : Marks). m.visible) (sym (number-at header.levels.items j))) i } ∷ [])
+    ∙ ap (λ (r : Run). take j (runs_in header) ++ r ∷ []) (sym (run-at header.clock 0 j numbers run here)) ∙ sym (take_more (runs_in header) j run (omega (arith, here, runs-many header.clock 0 numbers)))
 
--- runs that were pushed, and those of a level and below it
-pub one-more : (header : Header) (j : ℕ) (runs new : List Run) (run : Run) → j < header.geometry.bottom + 1 →
-    new ≡ runs ++ run ∷ [] → run ≡ run-at header j →
-    runs ++ visible_runs header.clock j (drop j (all_numbers header.levels.items)) ≡ runs_in header →
-    new ++ visible_runs header.clock (j + 1) (drop (j + 1) (all_numbers header.levels.items)) ≡ runs_in header
-one-more header j runs new run within pushed run-is before =
-    let marks = all_numbers header.levels.items in
-    let rest = visible_runs header.clock (suc j) (drop (suc j) marks) in
-    let next : j + 1 ≡ suc j = omega arith in
-    ap (λ (n : ℕ). new ++ visible_runs header.clock n (drop n marks)) next
-    ∙ ap (λ (rs : List Run). rs ++ rest) pushed
-    ∙ append_assoc runs (run ∷ []) rest
-    ∙ ap (λ (r : Run). runs ++ r ∷ rest) (run-is ∙ ap (λ (m : Marks). record { level = j; slot = visible_slot header.clock j; len = m.visible }) (sym (number-at header.levels.items j)))
-    ∙ ap (λ (rs : List Run). runs ++ rs) (sym (from-level header.clock j marks (omega (arith, within, header.one_each, numbers-length header.levels.items))))
-    ∙ before
-
-pub run-of : (header : Header) (j slot : ℕ) (marks : layout.Marks) → slot ≡ visible_slot header.clock j → marks ≡ marks_of header.levels.items j →
-    record { level = j; slot = slot; len = marks.visible } ≡ run-at header j
-run-of header j slot marks slot-is marks-are =
-    ap (λ (s : ℕ). record { level = j; slot = s; len = marks.visible }) slot-is
-    ∙ ap (λ (m : layout.Marks). record { level = j; slot = visible_slot header.clock j; len = m.visible }) marks-are
-
-pub all-pushed : (header : Header) (j : ℕ) (runs : List Run) → header.geometry.bottom + 1 ≤ j →
-    runs ++ visible_runs header.clock j (drop j (all_numbers header.levels.items)) ≡ runs_in header → runs ≡ runs_in header
+pub all-pushed : (header : Header) (j : ℕ) (runs : List Run) → header.geometry.bottom + 1 ≤ j → runs ≡ take j (runs_in header) → runs ≡ runs_in header
 all-pushed header j runs past so_far =
-    sym (ap (λ (rs : List Run). runs ++ rs) (from-end header.clock j (all_numbers header.levels.items) (omega (arith, past, header.one_each, numbers-length header.levels.items))) ∙ append-nil runs) ∙ so_far
-
--- ---- what the visible runs of a file give, where the file stands for a map
+    so_far ∙ take_all j (runs_in header) (omega (arith, past, header.one_each, numbers-length header.levels.items, runs-many header.clock 0 (all_numbers header.levels.items)))
 
 -- ---- the runs of an object that tells the cells of a file
 
@@ -337,29 +295,52 @@ module _ (geometry : Geometry) (held : Held) (bytes : List ℕ) (same : run.AreF
     runs-alike (suc j) m.visible ms fit.1 (omega (arith, within)),
   )
 
-  stands-there : (j slot i : ℕ) (cells : List LawCell) → j ≤ geometry.bottom → slot < 2 → i + length cells ≤ slot_size j → Stands (file_spots geometry.format bytes j slot) i cells → Stands (held.spots j slot) i cells
-  stands-there j slot i [] low side within told = tt
-  stands-there j slot i (c ∷ cells) low side within told = (
-    same j slot i (record { level_in = omega (arith, low); slot_in = side; index_in = omega (arith, within) }) ∙ told.0,
-    stands-there j slot (suc i) cells low side (omega (arith, within)) told.1,
-  )
+-- cells that stand somewhere stand where spots are alike
+stands-there : (there here : ℕ → Spot) (i : ℕ) (cells : List LawCell) → ((k : ℕ) → k < i + length cells → here k ≡ there k) → Stands there i cells → Stands here i cells
+stands-there there here i [] alike told = tt
+stands-there there here i (c ∷ cells) alike told = (alike i (omega arith) ∙ told.0, stands-there there here (suc i) cells (λ k h. alike k (omega (arith, h))) told.1)
 
+tells-bad : (found : Option Cell) → Tells (spot_of found) Bad → found ≡ None
+tells-bad None e = refl
+tells-bad (Some cell) e = cc
+
+not-bad : (spot : Spot) → IsTold spot → Tells spot Bad → ⊥
+not-bad Untold told bad = cc
+not-bad spot told bad = cc
+
+module _ (format : Format) (held : Held) (bytes : List ℕ) (t : ℕ) where
   -- runs that the file tells to be lists are those of the object
-  pub runs-listed : (j above : ℕ) (marks : List Marks) → AreAllMarks 0 t j above marks → j + length marks ≤ geometry.bottom + 1 → (lists : List (List LawCell)) →
-      AreListed (file_spots geometry.format bytes) (visible_runs t j marks) lists → AreRuns held (visible_runs t j marks) lists
-  runs-listed j above [] fit within [] listed = tt
-  runs-listed j above [] fit within (cells ∷ lists) listed = listed
-  runs-listed j above (m ∷ ms) fit within [] listed = listed
-  runs-listed j above (m ∷ ms) fit within (cells ∷ lists) listed = (
+  pub runs-listed : (j : ℕ) (marks : List Marks) → AreRunsAlike (file_spots format bytes) held.spots t j marks → (lists : List (List LawCell)) →
+      AreListed (file_spots format bytes) (visible_runs t j marks) lists → AreRuns held (visible_runs t j marks) lists
+  runs-listed j [] alike [] listed = tt
+  runs-listed j (m ∷ ms) alike (cells ∷ lists) listed = (
     record {
       length_is = listed.0.0;
-      stands =
-          let f : m.visible ≤ slot_size j = fit.0.visible_fits in
-          let e : m.visible ≡ length cells = listed.0.0 in
-          stands-there j (visible_slot t j) 0 cells (omega (arith, within)) (slot-in t j) (omega (arith, f, e)) listed.0.1;
+      stands = stands-there (file_spots format bytes j (visible_slot t j)) (held.spots j (visible_slot t j)) 0 cells (λ k h. alike.0 k (let e : m.visible ≡ length cells = listed.0.0 in omega (arith, h, e))) listed.0.1;
     },
-    runs-listed (suc j) m.visible ms fit.1 (omega (arith, within)) lists listed.1,
+    runs-listed (suc j) ms alike.2 lists listed.1,
   )
+  runs-listed j marks alike lists listed = absurd listed
+
+  -- a bad cell of a visible run is one of the file
+  pub bad-cell : (number j : ℕ) (marks : List Marks) → AreRunsAlike (file_spots format bytes) held.spots t j marks → HasBadRun held number (visible_runs t j marks) → decoded format (cell_bytes format bytes number) ≡ None
+  bad-cell number j [] alike bad = absurd bad
+  bad-cell number j (m ∷ ms) alike (inl b) = subst (λ (n : ℕ). decoded format (cell_bytes format bytes n) ≡ None) (sym b.bad.number_is)
+      (tells-bad (decoded format (cell_bytes format bytes (number_of j (visible_slot t j) b.index))) (subst (λ (s : Spot). Tells s Bad) (alike.0 b.index b.within) b.bad.told))
+  bad-cell number j (m ∷ ms) alike (inr b) = bad-cell number (suc j) ms alike.2 b
+
+  -- and a value of one is a value of the file
+  pub value-there : (row : Row) (j : ℕ) (marks : List Marks) → AreRunsAlike (file_spots format bytes) held.spots t j marks → IsValueOf held.spots (visible_runs t j marks) row → IsValueOf (file_spots format bytes) (visible_runs t j marks) row
+  value-there row j [] alike h = absurd h
+  value-there row j (m ∷ ms) alike (inl h) =
+      inl (record {
+        index = h.index;
+        within = h.within;
+        young = h.young;
+        link = h.link;
+        told = subst (λ (s : Spot). Tells s (Told (Entry row.key (Value (record { value = row.value; stamp = row.stamp })) h.young h.link))) (alike.0 h.index h.within) h.told;
+      })
+  value-there row j (m ∷ ms) alike (inr h) = inr (value-there row (suc j) ms alike.2 h)
 
 -- the visible runs are told to be those of the levels
 pub runs-are : (held : Held) (t j : ℕ) (marks : List Marks) → AreRunsTold held.spots t j marks → AreRuns held (visible_runs t j marks) (visibles (levels_of (slot_cells held.spots) t j marks))
@@ -368,27 +349,20 @@ runs-are held t j (m ∷ ms) told = (told_is held (record { level = j; slot = vi
 
 place-within : (key : List ℕ) (list : List LawCell) → laws.place key_cmp key list ≤ length list
 place-within key [] = omega arith
-place-within key (c ∷ list) = placed (is_lt (key_cmp (key_of c) key)) (laws.place key_cmp key list) (length list) (place-within key list)
-  where
-    placed : (b : Bool) (p n : ℕ) → p ≤ n → cond b (suc p) 0 ≤ suc n
-    placed true p n h = omega (arith, h)
-    placed false p n h = omega arith
+place-within key (c ∷ list) = elim (is_lt (key_cmp (key_of c) key)) as (λ b. cond b (suc (laws.place key_cmp key list)) 0 ≤ suc (length list)) [
+  | true ↦ omega (arith, place-within key list)
+  | false ↦ omega arith
+]
 
 pub begins-near : (spots : Spots) (t above : ℕ) (marks : List Marks) → AreAllMarks 0 t 0 above marks → (key : List ℕ) → BeginsNear key (visibles (levels_of (slot_cells spots) t 0 marks))
 begins-near spots t above [] fit key = tt
 begins-near spots t above (m ∷ ms) fit key =
-    let f : m.visible ≤ 4 = fit.0.visible_fits in
-    omega (arith, length-cells (spots 0 (visible_slot t 0)) 0 m.visible, place-within key (cells (spots 0 (visible_slot t 0)) 0 m.visible), f)
+    omega (arith, length-cells (spots 0 (visible_slot t 0)) 0 m.visible, place-within key (cells (spots 0 (visible_slot t 0)) 0 m.visible), fit.0.visible_fits)
 
-pub chain-sampled : (most t : ℕ) (f : List ℕ → Option Stamped) (spots : Spots) (marks : List Marks) → IsSoundChain key_cmp most t f (levels_of (slot_cells spots) t 0 marks) →
-    laws.AreSampled key_cmp (visibles (levels_of (slot_cells spots) t 0 marks))
-chain-sampled most t f spots [] sound = absurd sound
-chain-sampled most t f spots (m ∷ ms) sound = visible-sampled key_cmp most t 0 (visibles (levels_of (slot_cells spots) t 0 (m ∷ ms))) sound.sound.visible
-
-pub chain-says : (most t : ℕ) (f : List ℕ → Option Stamped) (spots : Spots) (marks : List Marks) → IsSoundChain key_cmp most t f (levels_of (slot_cells spots) t 0 marks) → (q : List ℕ) →
-    value_at key_cmp (visibles (levels_of (slot_cells spots) t 0 marks)) q ≡ f q
-chain-says most t f spots [] sound q = absurd sound
-chain-says most t f spots (m ∷ ms) sound q = sound.sound.stands q
+pub chain-says : (most t : ℕ) (f : List ℕ → Option Stamped) (spots : Spots) (marks : List Marks) → IsSoundChain key_cmp most t f (levels_of (slot_cells spots) t 0 marks) →
+    laws.AreSampled key_cmp (visibles (levels_of (slot_cells spots) t 0 marks)) × ((q : List ℕ) → value_at key_cmp (visibles (levels_of (slot_cells spots) t 0 marks)) q ≡ f q)
+chain-says most t f spots [] sound = absurd sound
+chain-says most t f spots (m ∷ ms) sound = (visible-sampled key_cmp most t 0 (visibles (levels_of (slot_cells spots) t 0 (m ∷ ms))) sound.sound.visible, sound.sound.stands)
 
 -- ---- a key of a map is not below the least key
 
@@ -399,17 +373,14 @@ from-least (zero ∷ byte ∷ bytes) some = refl
 from-least (suc n ∷ bytes) some =
     ap (λ (r : Ordering). is_le (ordering_then r (key_cmp [] bytes))) (sym (nat_cmp_is 0 (suc n) Less (omega arith)))
 
-key-some : (shape : Shape) (key : List ℕ) → is_key shape key ≡ true → 1 ≤ length key
-key-some shape key e = leb-true 1 (length key) (and_parts (nat_le 1 (length key)) (nat_le (length key) shape.key_limit) e).0
-
-key-few : (shape : Shape) (key : List ℕ) → is_key shape key ≡ true → length key ≤ shape.key_limit
-key-few shape key e = leb-true (length key) shape.key_limit (and_parts (nat_le 1 (length key)) (nat_le (length key) shape.key_limit) e).1
+key-size : (shape : Shape) (key : List ℕ) → is_key shape key ≡ true → (1 ≤ length key) × (length key ≤ shape.key_limit)
+key-size shape key e =
+    let parts = and_parts (nat_le 1 (length key)) (nat_le (length key) shape.key_limit) e in (leb-true 1 (length key) parts.0, leb-true (length key) shape.key_limit parts.1)
 
 all-kept : (shape : Shape) (last : ℕ) (pairs : List (List ℕ × Stamped)) → All (EntryFits shape last) (map stored-pair pairs) → filter (λ e. between key_cmp least None e.0) pairs ≡ pairs
 all-kept shape last [] fit = refl
 all-kept shape last (pair ∷ pairs) fit =
-    let here : EntryFits shape last (stored-pair pair) = All-head (EntryFits shape last) (stored-pair pair) (map stored-pair pairs) fit in
-    let from : is_le (key_cmp least pair.0) ≡ true = from-least pair.0 (key-some shape pair.0 here.key_fits) in
+    let from : is_le (key_cmp least pair.0) ≡ true = from-least pair.0 (key-size shape pair.0 (All-head (EntryFits shape last) (stored-pair pair) (map stored-pair pairs) fit).key_fits).0 in
     ap (λ (b : Bool). cond (b && true) (pair ∷ filter (λ e. between key_cmp least None e.0) pairs) (filter (λ e. between key_cmp least None e.0) pairs)) from
     ∙ ap (λ (ps : List (List ℕ × Stamped)). pair ∷ ps) (all-kept shape last pairs (All-tail (EntryFits shape last) (stored-pair pair) (map stored-pair pairs) fit))
 
@@ -450,56 +421,16 @@ module _ (shape : Shape) (m : Map) (runs : List (List LawCell)) (fitting : All (
       live_pairs runs ≡ map pair_of rows ++ pair_of row ∷ others → Breaks geometry m.last (length rows) (last_key rows) row → ⊥
   none-breaks geometry rows row others shape-is few pairs (inl low) = low (above-last rows row others (subst (λ (ps : List (List ℕ × Stamped)). T (is_sorted key_cmp ps)) pairs (pairs-rise runs)))
   none-breaks geometry rows row others shape-is few pairs (inr (inl full)) =
-      let all : count m ≡ length (live_pairs runs) = count-is m runs says in
-      let long : length (live_pairs runs) ≡ length (map pair_of rows) + length (pair_of row ∷ others) = ap length pairs ∙ length-append (map pair_of rows) (pair_of row ∷ others) in
-      let many : length (map pair_of rows) ≡ length rows = length-map rows pair_of in
-      omega (arith, all, long, many, few, full)
+      omega (arith, count-is m runs says, ap length pairs, length-append (map pair_of rows) (pair_of row ∷ others), length-map rows pair_of, few, full)
   none-breaks geometry rows row others shape-is few pairs (inr (inr (inl late))) =
       let fits = one-fits rows row others (subst (λ (ps : List (List ℕ × Stamped)). All (EntryFits shape m.last) (map stored-pair ps)) pairs all-fit) in
-      let given : row.stamp ≤ m.last = fits.given in
-      omega (arith, given, late)
+      omega (arith, fits.given, late)
   none-breaks geometry rows row others shape-is few pairs (inr (inr (inr unfit))) =
       let fits = one-fits rows row others (subst (λ (ps : List (List ℕ × Stamped)). All (EntryFits shape m.last) (map stored-pair ps)) pairs all-fit) in
       unfit (
-        subst (λ (s : Shape). length row.key ≤ s.key_limit) shape-is (key-few shape row.key fits.key_fits),
+        subst (λ (s : Shape). length row.key ≤ s.key_limit) shape-is (key-size shape row.key fits.key_fits).1,
         subst (λ (s : Shape). length row.value ≤ s.value_limit) shape-is (leb-true (length row.value) shape.value_limit fits.value_fits),
       )
-
--- ---- cells that are bad
-
-pub bad-none : (found : Option Cell) → spot_of found ≡ Bad → found ≡ None
-bad-none None e = refl
-bad-none (Some cell) e = cc
-
-tells-bad : (found : Option Cell) → Tells (spot_of found) Bad → found ≡ None
-tells-bad None e = refl
-tells-bad (Some cell) e = cc
-
-not-bad : (spot : Spot) → IsTold spot → Tells spot Bad → ⊥
-not-bad Untold told bad = cc
-not-bad spot told bad = cc
-
-module _ (geometry : Geometry) (held : Held) (bytes : List ℕ) (same : run.AreFileSpots geometry held.spots bytes) (t number : ℕ) where
-  -- a bad cell of a visible run is one of the file
-  pub bad-cell : (j above : ℕ) (marks : List Marks) → AreAllMarks 0 t j above marks → j + length marks ≤ geometry.bottom + 1 → HasBadRun held number (visible_runs t j marks) →
-      decoded geometry.format (cell_bytes geometry.format bytes number) ≡ None
-  bad-cell j above [] fit within bad = absurd bad
-  bad-cell j above (m ∷ ms) fit within (inl b) =
-      let place : held.spots j (visible_slot t j) b.index ≡ file_spots geometry.format bytes j (visible_slot t j) b.index =
-      same j (visible_slot t j) b.index (record { level_in = omega (arith, within); slot_in = slot-in t j; index_in = let f : m.visible ≤ slot_size j = fit.0.visible_fits in let h = b.within in omega (arith, h, f) }) in
-      subst (λ (n : ℕ). decoded geometry.format (cell_bytes geometry.format bytes n) ≡ None) (sym b.bad.number_is)
-      (tells-bad (decoded geometry.format (cell_bytes geometry.format bytes (number_of j (visible_slot t j) b.index))) (subst (λ (s : Spot). Tells s Bad) place b.bad.told))
-  bad-cell j above (m ∷ ms) fit within (inr b) = bad-cell (suc j) m.visible ms fit.1 (omega (arith, within)) b
-
-  -- and a value of one is a value of the file
-  pub value-there : (row : Row) (j above : ℕ) (marks : List Marks) → AreAllMarks 0 t j above marks → j + length marks ≤ geometry.bottom + 1 → IsValueOf held.spots (visible_runs t j marks) row →
-      IsValueOf (file_spots geometry.format bytes) (visible_runs t j marks) row
-  value-there row j above [] fit within h = absurd h
-  value-there row j above (m ∷ ms) fit within (inl h) =
-      let place : held.spots j (visible_slot t j) h.index ≡ file_spots geometry.format bytes j (visible_slot t j) h.index =
-      same j (visible_slot t j) h.index (record { level_in = omega (arith, within); slot_in = slot-in t j; index_in = let f : m.visible ≤ slot_size j = fit.0.visible_fits in let w = h.within in omega (arith, w, f) }) in
-      inl (record { index = h.index; within = h.within; young = h.young; link = h.link; told = subst (λ (s : Spot). Tells s (Told (Entry row.key (Value (record { value = row.value; stamp = row.stamp })) h.young h.link))) place h.told })
-  value-there row j above (m ∷ ms) fit within (inr h) = inr (value-there row (suc j) m.visible ms fit.1 (omega (arith, within)) h)
 
 -- where runs are told none is
 pub no-bad : (held : Held) (t number j : ℕ) (marks : List Marks) → AreRunsTold held.spots t j marks → HasBadRun held number (visible_runs t j marks) → ⊥
@@ -520,13 +451,11 @@ ended result loading rows geometry last told now P same final holds finishes f =
 pub seek-refused : (held : Held) (runs : List Run) (geometry : Geometry) (last : ℕ) (counts : Counts) (before now : ℕ) (loading : Loading) (told : Option (List ℕ)) (fault : ReadFault) (result : GrowFault) → result ≡ unread_as fault →
     RunsCause held runs before now fault → IfSome told (λ bytes. HoldsRows loading bytes []) → Walks held runs geometry last counts counts told (Err result)
 seek-refused held runs geometry last counts before now loading told (read.BadCell number) result is cause holds =
-    subst (λ (r : GrowFault). Walks held runs geometry last counts counts told (Err r)) (sym is)
-    (cause, record { headless = no-header loading told [] holds; no_others = omega arith })
+    rw is (cause, record { headless = no-header loading told [] holds; no_others = omega arith })
 seek-refused held runs geometry last counts before now loading told read.Device result is cause holds =
-    subst (λ (r : GrowFault). Walks held runs geometry last counts counts told (Err r)) (sym is)
-    (inl (record { headless = no-header loading told [] holds; no_others = omega arith }))
+    rw is (inl (record { headless = no-header loading told [] holds; no_others = omega arith }))
 
-module _ (held other : Held) (same : other ≡ held) (runs : List Run) (key : List ℕ) (key-is : key ≡ least) (cursor : Cursor) (begins : runs_of cursor.lines.items ≡ runs)
+module _ {held other : Held} (same : other ≡ held) {runs : List Run} {key : List ℕ} (key-is : key ≡ least) (cursor : Cursor) (begins : runs_of cursor.lines.items ≡ runs)
     (found : (lists : List (List LawCell)) → AreRuns held runs lists → AreSearched key lists → Ahead held cursor (live key_cmp (between key_cmp key None) lists)) (geometry : Geometry) (last : ℕ) where
   ahead : (lists : List (List LawCell)) → AreRuns held runs lists → AreSearched least lists → Ahead other cursor (live key_cmp (between key_cmp least None) lists)
   ahead lists told searched =
@@ -584,20 +513,18 @@ module _ (held other : Held) (same : other ≡ held) (runs : List Run) (key : Li
         },
       )
 
--- ---- what copying the pairs of a file answers, by what its runs gave
-
 -- ---- a file that stands for a map
 
 module _ (header : Header) (held : Held) (bytes : List ℕ) (same : run.AreFileSpots header.geometry held.spots bytes) where
   abbrev marks : List LevelMarks
   marks = all_numbers header.levels.items
 
-  within : 0 + length marks ≤ header.geometry.bottom + 1
-  within = let one = header.one_each in let size = numbers-length header.levels.items in omega (arith, one, size)
+  alike : AreRunsAlike (file_spots header.geometry.format bytes) held.spots header.clock 0 marks
+  alike = runs-alike header.geometry held bytes same header.clock 0 0 marks header.marks_fit (omega (arith, header.one_each, numbers-length header.levels.items))
 
   module _ (m : Map) (stands : HeaderStandsFor (fields_of header) bytes m) where
     levels : LevelsStandFor header.geometry.keys header.clock marks held.spots m
-    levels = stand-alike header.geometry.keys header.clock marks (file_spots header.geometry.format bytes) held.spots m (runs-alike header.geometry held bytes same header.clock 0 0 marks header.marks_fit within) stands.levels
+    levels = stand-alike header.geometry.keys header.clock marks (file_spots header.geometry.format bytes) held.spots m alike stands.levels
 
     abbrev lists : List (List LawCell)
     lists = visibles (levels_of (slot_cells held.spots) header.clock 0 marks)
@@ -605,60 +532,53 @@ module _ (header : Header) (held : Held) (bytes : List ℕ) (same : run.AreFileS
     abbrev shape : Shape
     shape = shape_of header.geometry.format header.geometry.keys
 
-    searched : AreSearched least lists
-    searched = record {
-      sampled = chain-sampled header.geometry.keys header.clock _ held.spots marks levels.sound;
-      near = begins-near held.spots header.clock 0 marks header.marks_fit least;
-    }
+    says : laws.AreSampled key_cmp lists × ((q : List ℕ) → value_at key_cmp lists q ≡ found_in m q)
+    says = chain-says header.geometry.keys header.clock _ held.spots marks levels.sound
+
+    -- what holds of the pairs of the runs holds of those of the map
+    of-map : (P : List (List ℕ × Stamped) → Type 0) → OfPairs held (runs_in header) P → P (live_pairs lists)
+    of-map P pairs = subst P (pairs-all shape m lists stands.is_map.fitting says.1)
+        (pairs lists (runs-are held header.clock 0 marks levels.told) (record { sampled = says.0; near = begins-near held.spots header.clock 0 marks header.marks_fit least }))
 
     file-rows : (rows : List Row) → OfPairs held (runs_in header) (λ pairs. pairs ≡ map pair_of rows) → rows ≡ rows_of m
-    file-rows rows pairs =
-        let says = chain-says header.geometry.keys header.clock _ held.spots marks levels.sound in
-        rows-are shape m lists stands.is_map.fitting says rows (sym (pairs-all shape m lists stands.is_map.fitting says) ∙ pairs lists (runs-are held header.clock 0 marks levels.told) searched)
+    file-rows rows pairs = rows-are shape m lists stands.is_map.fitting says.1 rows (of-map (λ pairs. pairs ≡ map pair_of rows) pairs)
 
     file-orders : (geometry : Geometry) (rows : List Row) (row : Row) → geometry.format ≡ header.geometry.format → header.count ≤ geometry.keys →
         OfPairs held (runs_in header) (λ pairs. (others : List (List ℕ × Stamped)) × (pairs ≡ map pair_of rows ++ pair_of row ∷ others)) → Breaks geometry header.last (length rows) (last_key rows) row → ⊥
     file-orders geometry rows row format few pairs breaks =
-        let says = chain-says header.geometry.keys header.clock _ held.spots marks levels.sound in
-        let given = pairs lists (runs-are held header.clock 0 marks levels.told) searched in
-        none-breaks shape m lists stands.is_map.fitting says geometry rows row given.0 (ap (λ f. shape_of f header.geometry.keys) (sym format)) (subst (λ (n : ℕ). n ≤ geometry.keys) stands.counted few)
-        (sym (pairs-all shape m lists stands.is_map.fitting says) ∙ given.1) (subst (λ (n : ℕ). Breaks geometry n (length rows) (last_key rows) row) stands.numbered breaks)
+        let given = of-map (λ pairs. (others : List (List ℕ × Stamped)) × (pairs ≡ map pair_of rows ++ pair_of row ∷ others)) pairs in
+        none-breaks shape m lists stands.is_map.fitting says.1 geometry rows row given.0 (ap (λ f. shape_of f header.geometry.keys) (sym format)) (subst (λ (n : ℕ). n ≤ geometry.keys) stands.counted few)
+        given.1 (subst (λ (n : ℕ). Breaks geometry n (length rows) (last_key rows) row) stands.numbered breaks)
 
     file-spelled : (number : ℕ) → HasBadRun held number (runs_in header) → ⊥
     file-spelled number bad = no-bad held header.clock number 0 marks levels.told bad
 
   file-pairs : (P : List (List ℕ × Stamped) → Type 0) → OfPairs held (runs_in header) P → OfFilePairs header P bytes
-  file-pairs P pairs = λ lists listed searched. pairs lists (runs-listed header.geometry held bytes same header.clock 0 0 marks header.marks_fit within lists listed) searched
+  file-pairs P pairs = λ lists listed searched. pairs lists (runs-listed header.geometry.format held bytes header.clock 0 marks alike lists listed) searched
 
   file-bad : (number : ℕ) → HasBadRun held number (runs_in header) → decoded header.geometry.format (cell_bytes header.geometry.format bytes number) ≡ None
-  file-bad number bad = bad-cell header.geometry held bytes same header.clock number 0 0 marks header.marks_fit within bad
+  file-bad number bad = bad-cell header.geometry.format held bytes header.clock number 0 marks alike bad
 
   file-values : (rows : List Row) → AreValuesOf held.spots (runs_in header) rows → AreInFile header rows bytes
-  file-values rows given = all_change (λ row h. value-there header.geometry held bytes same header.clock 0 row 0 0 marks header.marks_fit within h) rows given
+  file-values rows given = all_change (λ row h. value-there header.geometry.format held bytes header.clock row 0 marks alike h) rows given
 
 -- ---- a cell of the front that is bad
-
-block-fits : (b n : ℕ) → b ≤ min 9 (n + 2) → b ≤ n + 2
-block-fits b n h = omega (arith, h)
-
-told-good : (spot : Spot) → IsTold spot → spot ≡ Bad → ⊥
-told-good spot told bad = let e : Bad ≡ _ = sym bad ∙ told in cc
 
 module _ (header : Header) (bytes : List ℕ) (number : ℕ) (bad : run.IsLowestBad header (file_spots header.geometry.format bytes) number) where
   front-bad : decoded header.geometry.format (cell_bytes header.geometry.format bytes number) ≡ None
   front-bad = subst (λ (n : ℕ). decoded header.geometry.format (cell_bytes header.geometry.format bytes n) ≡ None) (sym bad.at)
-      (bad-none (decoded header.geometry.format (cell_bytes header.geometry.format bytes (number_of bad.level bad.slot bad.index))) bad.bad)
+      (tells-bad (decoded header.geometry.format (cell_bytes header.geometry.format bytes (number_of bad.level bad.slot bad.index))) (rw bad.bad refl))
 
   front-none : IsForNone header bytes
   front-none m stands =
       let front : bad.level + 2 < header.geometry.block_exp = bad.run.front in
-      let block : header.geometry.block_exp ≤ header.geometry.bottom + 2 = block-fits header.geometry.block_exp header.geometry.bottom header.geometry.block_fits.fits in
+      let block : header.geometry.block_exp ≤ header.geometry.bottom + 2 = omega (arith, header.geometry.block_fits.fits) in
       let same-len : run.run_len header bad.level bad.slot ≡ run_len (tested_of (fields_of header) bytes) bad.level bad.slot =
       ap (λ (m : LevelMarks). if bad.slot == visible_slot header.clock bad.level then m.visible else m.shadow) (sym (number-at header.levels.items bad.level)) in
-      told-good (file_spots header.geometry.format bytes bad.level bad.slot bad.index)
+      not-bad (file_spots header.geometry.format bytes bad.level bad.slot bad.index)
       (told-cells (tested_of (fields_of header) bytes) stands.levels.told bad.level bad.slot bad.index
       (record { level_in = omega (arith, header.one_each, numbers-length header.levels.items, front, block); slot_in = bad.run.slot_in; within = subst (λ (n : ℕ). bad.index < n) same-len bad.run.within }))
-      bad.bad
+      (rw bad.bad refl)
 
 -- ---- the answers
 
@@ -666,17 +586,15 @@ module _ {E : Type 0} (e : device.Ghosts E) (header : Header) (geometry : Geomet
   pub load-refused : (told : Option (List ℕ)) (to : E) (before now : ℕ) (fault : ReadFault) (result : GrowFault) → result ≡ unread_as fault → run.LoadAnswers header told before now (Err fault) →
       Copies e header geometry told to to (Err result)
   load-refused told to before now (read.BadCell number) result is answer =
-      subst (λ (r : GrowFault). Copies e header geometry told to to (Err r)) (sym is)
-      (record { bad = IfSome_then told answer (λ bytes bad. front-bad header bytes number bad); no_map = IfSome_then told answer (λ bytes bad. front-none header bytes number bad); left = inl refl })
-  load-refused told to before now read.Device result is answer = subst (λ (r : GrowFault). Copies e header geometry told to to (Err r)) (sym is) (Uncalled refl)
+      rw is (record { bad = IfSome_then told answer (λ bytes bad. front-bad header bytes number bad); no_map = IfSome_then told answer (λ bytes bad. front-none header bytes number bad); left = inl refl })
+  load-refused told to before now read.Device result is answer = rw is (Uncalled refl)
 
   -- the new file was not begun
   pub begin-refused : (told : Option (List ℕ)) (to now : E) (fault : LoadFault) (result : GrowFault) → result ≡ unbegun_as fault → Begins e geometry header.last to now (Err fault) → Spends (e.counts to) (e.counts now) 0 0 2 →
       Copies e header geometry told to now (Err result)
-  begin-refused told to now load.NotEmpty result is begins spends =
-      subst (λ (r : GrowFault). Copies e header geometry told to now (Err r)) (sym is) (record { was = begins.why_is; bytes_stay = begins.bytes_stay; spends = begins.spends })
-  begin-refused told to now load.OutOfMemory result is begins spends = subst (λ (r : GrowFault). Copies e header geometry told to now (Err r)) (sym is) (record { bytes_stay = begins.bytes_stay; left = inr begins.why_is; spends = begins.spends })
-  begin-refused told to now load.Device result is begins spends = subst (λ (r : GrowFault). Copies e header geometry told to now (Err r)) (sym is) (NotBegun (record { failed = begins; spends = spends }))
+  begin-refused told to now load.NotEmpty result is begins spends = rw is (record { was = begins.why_is; bytes_stay = begins.bytes_stay; spends = begins.spends })
+  begin-refused told to now load.OutOfMemory result is begins spends = rw is (record { bytes_stay = begins.bytes_stay; left = inr begins.why_is; spends = begins.spends })
+  begin-refused told to now load.Device result is begins spends = rw is (NotBegun (record { failed = begins; spends = spends }))
 
   module _ (held : Held) (told : Option (List ℕ)) (same : IfSome told (run.AreFileSpots header.geometry held.spots)) (format : geometry.format ≡ header.geometry.format) (few : header.count ≤ geometry.keys) where
     map-is : (rows : List Row) → OfPairs held (runs_in header) (λ pairs. pairs ≡ map pair_of rows) → IfSome told (λ bytes. (m : Map) → HeaderStandsFor (fields_of header) bytes m → rows ≡ rows_of m)

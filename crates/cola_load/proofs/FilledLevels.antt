@@ -56,13 +56,9 @@ module _ (bottom : ℕ) (rows : List Row) (spots : Spots)
       let here = same level k (omega (arith, is)) (subst (λ (n : ℕ). k < run_len (length rows) n) (sym left) h) in
       subst (λ spot. spot ≡ Told (cell_at spot)) (sym here) refl)
 
-  none-told : (level slot : ℕ) → AreTold (spots level slot) 0
-  none-told level slot k h = absurd (omega (arith, h))
-
   all-told : (level height : ℕ) → level + height ≡ bottom → AreRunsTold spots 0 level (all_numbers (marks_from (length rows) height))
-  all-told level zero is = (visible-told level zero is, none-told level (1 - visible_slot 0 level), tt)
-  all-told level (suc height) is =
-      (visible-told level (suc height) is, none-told level (1 - visible_slot 0 level), all-told (suc level) height (omega (arith, is)))
+  all-told level zero is = (visible-told level zero is, λ k h. absurd (omega (arith, h)), tt)
+  all-told level (suc height) is = (visible-told level (suc height) is, λ k h. absurd (omega (arith, h)), all-told (suc level) height (omega (arith, is)))
 
 -- the cells of a filled file are told
 file-tells : (geometry : Geometry) (rows : List Row) (bytes : List ℕ) → HasFilledCells geometry rows bytes →
@@ -76,18 +72,15 @@ filled-levels geometry rows bytes cells =
     levels-are geometry.bottom rows (file_spots geometry.format bytes) (file-tells geometry rows bytes cells) 0 geometry.bottom (omega arith)
     ∙ levels-loaded rows geometry.bottom
 
--- a chain of two levels and more over a bottom run is sound for its map
-sound-from : (most bottom : ℕ) (f : List ℕ → Option Stamped) (run : List LawCell) → 1 ≤ bottom → ((n : ℕ) → IsSoundChain key_cmp most 0 f (loaded (suc n) run)) → IsSoundChain key_cmp most 0 f (loaded bottom run)
-sound-from most zero f run some sound = absurd (omega (arith, some))
-sound-from most (suc n) f run some sound = sound n
-
+-- a chain of two levels and more over the bottom run of a filled file is sound for the map of its rows
 filled-sound : (geometry : Geometry) (last : ℕ) (rows : List Row) (bytes : List ℕ) → AreRows (shape_of geometry.format geometry.keys) last rows → HasFilledCells geometry rows bytes →
     IsSoundChain key_cmp geometry.keys 0 (found_in (map_of last rows)) (levels_of (slot_cells (file_spots geometry.format bytes)) 0 0 (all_numbers (marks_from (length rows) geometry.bottom)))
 filled-sound geometry last rows bytes are cells =
     let shape = shape_of geometry.format geometry.keys in
     let run : List LawCell = bottom_run rows in
-    let sound = sound-from geometry.keys geometry.bottom (value_at key_cmp (run ∷ [])) run (omega (arith, geometry.bottom_fits.three))
-    (λ n. loaded-sound nat_list_cmp_total geometry.keys run (bottom-run shape last rows are) n) in
+    let up : suc (geometry.bottom - 1) ≡ geometry.bottom = omega (arith, geometry.bottom_fits.three) in
+    let sound = subst (λ (n : ℕ). IsSoundChain key_cmp geometry.keys 0 (value_at key_cmp (run ∷ [])) (loaded n run)) up
+    (loaded-sound nat_list_cmp_total geometry.keys run (bottom-run shape last rows are) (geometry.bottom - 1)) in
     subst (λ (levels : List (Level (List ℕ) Stamped)). IsSoundChain key_cmp geometry.keys 0 (found_in (map_of last rows)) levels) (sym (filled-levels geometry rows bytes cells))
     (subst (λ (f : List ℕ → Option Stamped). IsSoundChain key_cmp geometry.keys 0 f (loaded geometry.bottom run)) (fun_ext (found-is shape last rows are)) sound)
 

@@ -1,5 +1,5 @@
 -- The runs of a filled file, the bottom's of the rows and each other one the sample of the run below it, and the map that the rows give.
-use Rattle.std.proofs.Common.{◌≡◌, ℕ, zero, suc, ◌+◌, ◌-◌, ◌*◌, ◌/◌, ◌^◌, ◌≤◌, List, [], ◌∷◌, length, map, refl, sym, ap, ◌∙◌, arith, Bool, true, false, cond, T, All, Option, Some, None, option_map, subst}
+use Rattle.std.proofs.Common.{◌≡◌, ℕ, zero, suc, ◌+◌, ◌-◌, ◌*◌, ◌/◌, ◌^◌, ◌≤◌, List, [], ◌∷◌, length, map, refl, sym, ap, ◌∙◌, arith, Bool, true, false, cond, All, Option, Some, None, option_map, subst}
 use Rattle.std.proofs.Math.Nat.{pow-suc}
 use Rattle.cola_abstract.specs.Cell as laws
 use Rattle.cola_cell.specs.Held.{Stamped, LawCell, Spot, Told, as_cell}
@@ -28,6 +28,7 @@ use Rattle.cola_image.proofs.WorkedMaps.{and-both}
 use Rattle.cola_laws.specs.Sound.{IsBottomRun}
 use Rattle.cola_runs.specs.Seen.{Seen, Old, holds, seen, value_of}
 use Rattle.cola_runs.proofs.Deciding.{is_less}
+use Rattle.cola_pairs.proofs.Order.{holds as is_true, passed}
 use Rattle.cola_spec.specs.Map.{Shape, Stored, Map, IsMap, EntryFits, key_cmp, count}
 use Rattle.cola_shapes.specs.Shapes.{stamped_of, shape_of}
 
@@ -57,17 +58,11 @@ spots_at rows height index = Told (as_cell (filled_cell rows height index))
 abbrev pub run_at : List Row → ℕ → List LawCell
 run_at rows height = cells (spots_at rows height) 0 (run_len (length rows) height)
 
-last-below : (power k : ℕ) → power * suc (8 * k + 7) - 1 ≡ power * 8 * suc k - 1
-last-below power k = let e : power * suc (8 * k + 7) ≡ power * 8 * suc k = omega arith in omega arith
-
-one-below : (k : ℕ) → 8 * k + 7 ≡ 8 ^ 1 * suc k - 1
-one-below k = omega arith
-
 above-is : (rows : List Row) (height k : ℕ) → spots_at rows (suc height) k ≡ Told (laws.Look (key_of (cell_at (spots_at rows height (8 * k + 7)))) (8 * k))
-above-is rows zero k = ap (λ (index : ℕ). Told (laws.Look (row_at rows index).key (8 * k))) (sym (one-below k))
+above-is rows zero k = let e : 8 ^ 1 * suc k - 1 ≡ 8 * k + 7 = omega arith in ap (λ (index : ℕ). Told (laws.Look (row_at rows index).key (8 * k))) e
 above-is rows (suc height) k =
-    ap (λ (index : ℕ). Told (laws.Look (row_at rows index).key (8 * k)))
-    (ap (λ (power : ℕ). power * suc k - 1) (pow-suc 8 (suc height)) ∙ sym (last-below (8 ^ suc height) k))
+    let e : 8 ^ suc height * 8 * suc k ≡ 8 ^ suc height * suc (8 * k + 7) = omega arith in
+    ap (λ (index : ℕ). Told (laws.Look (row_at rows index).key (8 * k))) (ap (λ (power : ℕ). power * suc k - 1) (pow-suc 8 (suc height)) ∙ ap (λ (n : ℕ). n - 1) e)
 
 -- each run above the bottom is the sample of the run below it
 run-above : (rows : List Row) (height : ℕ) → look_run (sample (run_at rows height)) ≡ run_at rows (suc height)
@@ -115,13 +110,6 @@ levels-loaded rows (suc height) =
 
 -- ---- entries and rows
 
-holds_of : (b : Bool) → b ≡ true → T b
-holds_of b is = subst T (sym is) tt
-
-pub is_true : (b : Bool) → T b → b ≡ true
-is_true true h = refl
-is_true false h = absurd h
-
 rows-again : (rows : List Row) → map row_of_entry (map entry_of rows) ≡ rows
 rows-again [] = refl
 rows-again (row ∷ rows) = ap (λ (left : List Row). row ∷ left) (rows-again rows)
@@ -131,7 +119,7 @@ entries-again [] = refl
 entries-again (e ∷ es) = ap (λ (left : List (List ℕ × Stored)). e ∷ left) (entries-again es)
 
 pub entries-are : (shape : Shape) (last : ℕ) (rows : List Row) → AreRows shape last rows → finite.entries (map_of last rows).entries ≡ map entry_of rows
-entries-are shape last rows are = finite.entries-from_sorted key_cmp (map entry_of rows) (holds_of (is_sorted key_cmp (map entry_of rows)) are.rising)
+entries-are shape last rows are = finite.entries-from_sorted key_cmp (map entry_of rows) (passed (is_sorted key_cmp (map entry_of rows)) are.rising)
 
 pub count-is : (shape : Shape) (last : ℕ) (rows : List Row) → AreRows shape last rows → count (map_of last rows) ≡ length rows
 count-is shape last rows are =
@@ -156,13 +144,10 @@ is-map Two keys last rows within are = record {
 
 -- ---- the rows of a map
 
-same-entries : (entries : FinMap key_cmp Stored) → finite.from_sorted (map entry_of (map row_of_entry (finite.entries entries))) ≡ entries
-same-entries entries =
-    ap (λ (es : List (List ℕ × Stored)). finite.from_sorted {R = key_cmp} es) (entries-again (finite.entries entries))
-    ∙ finite.same_entries_map (finite.from_sorted (finite.entries entries)) entries (finite.entries-from_sorted key_cmp (finite.entries entries) (finite.entries_sorted entries))
-
 pub map-again : (m : Map) → map_of m.last (rows_of m) ≡ m
-map-again m = ap (λ (entries : FinMap key_cmp Stored). record { entries = entries; last = m.last }) (same-entries m.entries)
+map-again m = ap (λ (entries : FinMap key_cmp Stored). record { entries = entries; last = m.last })
+    (ap (λ (es : List (List ℕ × Stored)). finite.from_sorted {R = key_cmp} es) (entries-again (finite.entries m.entries))
+    ∙ finite.same_entries_map (finite.from_sorted (finite.entries m.entries)) m.entries (finite.entries-from_sorted key_cmp (finite.entries m.entries) (finite.entries_sorted m.entries)))
 
 pub are-rows : (shape : Shape) (m : Map) → IsMap shape m → AreRows shape m.last (rows_of m)
 are-rows shape m is = record {
@@ -190,18 +175,15 @@ found-rows q (row ∷ rows) =
 pub found-is : (shape : Shape) (last : ℕ) (rows : List Row) → AreRows shape last rows → (q : List ℕ) → value_at key_cmp (bottom_run rows ∷ []) q ≡ found_in (map_of last rows) q
 found-is shape last rows are q =
     found-rows q rows
-    ∙ ap (λ (o : Option Stored). option_map stamped_of o) (sym (finite.get-from_sorted key_cmp (map entry_of rows) q (holds_of (is_sorted key_cmp (map entry_of rows)) are.rising)))
+    ∙ ap (λ (o : Option Stored). option_map stamped_of o) (sym (finite.get-from_sorted key_cmp (map entry_of rows) q (passed (is_sorted key_cmp (map entry_of rows)) are.rising)))
 
 -- ---- it is a run of the bottom
-
-less-place : (r : Ordering) → r ≡ Less → ordering_then r Equal ≡ Less
-less-place r e = rw e refl
 
 below-rows : (row : Row) (rows : List Row) → below_all key_cmp row.key (map entry_of rows) ≡ true → AllByRecursion (λ (d : LawCell). place_cmp key_cmp (row_cell row) d ≡ Less) (map row_cell rows)
 below-rows row [] h = tt
 below-rows row (next ∷ rows) h =
     let both = and-both (is_lt (key_cmp row.key next.key)) (below_all key_cmp row.key (map entry_of rows)) h in
-    (less-place (key_cmp row.key next.key) (is_less (key_cmp row.key next.key) both.0), below-rows row rows both.1)
+    (ap (λ (r : Ordering). ordering_then r Equal) (is_less (key_cmp row.key next.key) both.0), below-rows row rows both.1)
 
 rising-rows : (rows : List Row) → is_sorted key_cmp (map entry_of rows) ≡ true → IsRising key_cmp (map row_cell rows)
 unfolding IsStrictlySortedBy
@@ -210,17 +192,13 @@ rising-rows (row ∷ rows) h =
     let both = and-both (below_all key_cmp row.key (map entry_of rows)) (is_sorted key_cmp (map entry_of rows)) h in
     (below-rows row rows both.0, rising-rows rows both.1)
 
-linked-rows : (rows : List Row) → IsLinked 0 (map row_cell rows)
-linked-rows [] = tt
-linked-rows (row ∷ rows) = (refl, linked-rows rows)
-
-values-rows : (rows : List Row) → AllByRecursion (λ (c : LawCell). IsOldValue c) (map row_cell rows)
-values-rows [] = tt
-values-rows (row ∷ rows) = (tt, values-rows rows)
+linked-rows : (rows : List Row) → IsLinked 0 (map row_cell rows) × AllByRecursion (λ (c : LawCell). IsOldValue c) (map row_cell rows)
+linked-rows [] = (tt, tt)
+linked-rows (row ∷ rows) = let h = linked-rows rows in ((refl, h.0), (tt, h.1))
 
 pub bottom-run : (shape : Shape) (last : ℕ) (rows : List Row) → AreRows shape last rows → IsBottomRun key_cmp shape.limit (bottom_run rows)
 bottom-run shape last rows are = record {
-  formed = record { rising = rising-rows rows are.rising; linked = linked-rows rows };
-  values = values-rows rows;
+  formed = record { rising = rising-rows rows are.rising; linked = (linked-rows rows).0 };
+  values = (linked-rows rows).1;
   few = let n = length-map rows row_cell in omega (arith, n, are.few);
 }

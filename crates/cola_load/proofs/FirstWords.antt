@@ -13,10 +13,6 @@ use Rattle.cola_load.specs.declared.answer.Word.TheVariants as word
 use Rattle.cola_load.specs.declared.answer.RowLine.TheVariants.{Row, Nothing}
 use Rattle.cola_load.specs.Judged.{answer_of}
 
-or_nothing : (found : Option Word) → option_or found None ≡ found
-or_nothing None = refl
-or_nothing (Some word) = refl
-
 -- where no line has a word, all are before it
 pub all_without_word : (shape : Shape) (before lines : List Line) → first_word shape before lines ≡ None → lines_before_word shape before lines ≡ lines
 all_without_word shape before [] none = refl
@@ -30,31 +26,24 @@ all_without_word shape before (line ∷ lines) none =
 -- behind lines without a word the next has its own
 pub next_word : (shape : Shape) (before lines : List Line) (next : Line) → first_word shape before lines ≡ None → first_word shape before (lines ++ next ∷ []) ≡ word_behind shape (before ++ lines) next
 next_word shape before [] next none =
-    or_nothing (word_behind shape before next) ∙ ap (λ l. word_behind shape l next) (sym (append-nil before))
+    elim (word_behind shape before next) as (λ w. option_or w None ≡ w) [ None ↦ refl | Some found ↦ refl ] ∙ ap (λ l. word_behind shape l next) (sym (append-nil before))
 next_word shape before (line ∷ lines) next none =
     elim (word_behind shape before line) as (λ w. option_or w (first_word shape (before ++ line ∷ []) lines) ≡ None → option_or w (first_word shape (before ++ line ∷ []) (lines ++ next ∷ [])) ≡ word_behind shape (before ++ line ∷ lines) next) [
       | None ↦ λ rest. next_word shape (before ++ line ∷ []) lines next rest ∙ ap (λ l. word_behind shape l next) (append_assoc before (line ∷ []) lines)
       | Some found ↦ λ some. cc
     ] none
 
--- a word stays the first whatever lines come behind it
-pub word_stays : (shape : Shape) (before lines more : List Line) (found : Word) → first_word shape before lines ≡ Some found → first_word shape before (lines ++ more) ≡ Some found
+-- a word stays the first whatever lines come behind it, and so do the lines before it
+pub word_stays : (shape : Shape) (before lines more : List Line) (found : Word) → first_word shape before lines ≡ Some found →
+    (first_word shape before (lines ++ more) ≡ Some found) × (lines_before_word shape before (lines ++ more) ≡ lines_before_word shape before lines)
 word_stays shape before [] more found is = cc
 word_stays shape before (line ∷ lines) more found is =
-    elim (word_behind shape before line) as (λ w. option_or w (first_word shape (before ++ line ∷ []) lines) ≡ Some found → option_or w (first_word shape (before ++ line ∷ []) (lines ++ more)) ≡ Some found) [
-      | None ↦ λ rest. word_stays shape (before ++ line ∷ []) lines more found rest
-      | Some first ↦ λ same. same
-    ] is
-
--- and so do the lines before it
-pub lines_stay : (shape : Shape) (before lines more : List Line) (found : Word) → first_word shape before lines ≡ Some found → lines_before_word shape before (lines ++ more) ≡ lines_before_word shape before lines
-lines_stay shape before [] more found is = cc
-lines_stay shape before (line ∷ lines) more found is =
     let left = lines_before_word shape (before ++ line ∷ []) lines in
     let longer = lines_before_word shape (before ++ line ∷ []) (lines ++ more) in
-    elim (word_behind shape before line) as (λ w. option_or w (first_word shape (before ++ line ∷ []) lines) ≡ Some found → unless w (line ∷ longer) ≡ unless w (line ∷ left)) [
-      | None ↦ λ rest. ap (λ l. line ∷ l) (lines_stay shape (before ++ line ∷ []) lines more found rest)
-      | Some first ↦ λ same. refl
+    elim (word_behind shape before line) as (λ w. option_or w (first_word shape (before ++ line ∷ []) lines) ≡ Some found →
+    (option_or w (first_word shape (before ++ line ∷ []) (lines ++ more)) ≡ Some found) × (unless w (line ∷ longer) ≡ unless w (line ∷ left))) [
+      | None ↦ λ rest. let h = word_stays shape (before ++ line ∷ []) lines more found rest in (h.0, ap (λ l. line ∷ l) h.1)
+      | Some first ↦ λ same. (same, refl)
     ] is
 
 -- ---- what an answer tells of a line and of those before it

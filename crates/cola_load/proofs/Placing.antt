@@ -1,7 +1,7 @@
 -- Where a cell stands, and what putting one leaves of the others.
 use Rattle.std.proofs.Common.{eq-eqb, ◌≡◌, ◌≢◌, ◌⊎◌, inl, inr, ℕ, ◌+◌, ◌*◌, ◌/◌, ◌%◌, ◌^◌, ◌<◌, ◌≤◌, ◌==◌, nat_lt, true, false, Bool, if◌then◌else◌, List, length, take, set, Option, None, Some, Result, Ok, Err, refl, sym, ap, subst, ◌∙◌, arith}
 use Rattle.std.specs.Prelude.{IfSome}
-use Rattle.std.proofs.lemmas.Bool.{lt-ltb, le-ltb, ne_eqb, eqb-true, false≢true, cases_lt, cases_eq}
+use Rattle.std.proofs.lemmas.Bool.{lt-ltb, le-ltb, ne_eqb, cases_lt, cases_eq}
 use Rattle.std.proofs.Math.Nat.{mul-le-mul_right}
 use Rattle.std.proofs.lemmas.List.{get_or-set_same, get_or-set_other}
 use Rattle.std.proofs.lemmas.Nat.{pow_pos}
@@ -22,28 +22,23 @@ use Rattle.cola_layout.specs.declared.geometry.Geometry.{Geometry}
 use Rattle.cola_run.specs.Cells.{IsOnDevice, block_cells, block_bytes, block_number, file_bytes, tail_number, tails_bytes}
 use Rattle.cola_run.specs.Parts.{tail_of, fills, WroteTail, TailPushed}
 use Rattle.cola_run.proofs.Numbers.{IsMore, IsFull, next-split, one-place, first-place, block-behind}
-use Rattle.cola_run.proofs.Spots.{choose-then, choose-else, both-same, both-so, both-second}
+use Rattle.cola_run.proofs.Spots.{choose-then, choose-else, both-same, both-so, both-second, both-with}
 use Rattle.cola_run.proofs.Steps.{block-fits, tail_many, tail-cell, put-many, put-there, put-stays, written-many, written-there, written-stays}
 use Rattle.cola_load.specs.Loading.{Loading, HasMore, Puts, StaysInFront, standing_cell}
 
 -- what follows of two contents that are told, where the first has something
 pub both-given : {A B : Type 0} {Q : A → Type 0} {P R : A → B → Type 0} (a : Option A) (b : Option B) → IfSome a Q → Both a b P → ((x : A) (y : B) → Q x → P x y → R x y) → Both a b R
-both-given (Some x) (Some y) q p f = f x y q p
-both-given None None q p f = tt
-both-given a b q p f = absurd p
+both-given {Q = Q} {P = P} {R = R} a b q p f = both-so a b (λ x y. Q x × P x y) R (λ x y h. f x y h.0 h.1) (both-with a b Q P q p)
+
+-- what follows of two relations
+pub both-both : {A B : Type 0} {P Q R : A → B → Type 0} (a : Option A) (b : Option B) → Both a b P → Both a b Q → ((x : A) (y : B) → P x y → Q x y → R x y) → Both a b R
+both-both (Some x) (Some y) p q f = f x y p q
+both-both None None p q f = tt
+both-both a b p q f = absurd p
 
 -- and the second then
 pub some-given : {A B : Type 0} {Q : A → Type 0} {P : A → B → Type 0} {S : B → Type 0} (a : Option A) (b : Option B) → IfSome a Q → Both a b P → ((x : A) (y : B) → Q x → P x y → S y) → IfSome b S
-some-given {Q} {P} {S} a b q p f = both-second a b (λ x y. S y) S (λ x y s. s) (both-given {Q = Q} {P = P} {R = λ x y. S y} a b q p f)
-
--- two relations one behind the other
-pub both-then : {A B C : Type 0} {P : A → B → Type 0} {Q : B → C → Type 0} {R : A → C → Type 0} (a : Option A) (b : Option B) (c : Option C)
-    → Both a b P → Both b c Q → ((x : A) (y : B) (z : C) → P x y → Q y z → R x z) → Both a c R
-both-then (Some x) (Some y) (Some z) p q f = f x y z p q
-both-then None None None p q f = tt
-both-then None None (Some z) p q f = absurd q
-both-then (Some x) (Some y) None p q f = absurd q
-both-then a b c p q f = absurd p
+some-given {Q = Q} {P = P} {S = S} a b q p f = both-second a b (λ x y. Q x × P x y) S (λ x y h. f x y h.0 h.1) (both-with a b Q P q p)
 
 -- a level is on the device
 pub on-level : (g : Geometry) (level : ℕ) → g.block_exp ≤ level + 2 → level ≤ g.bottom → IsOnDevice g level
@@ -96,9 +91,7 @@ pub stands-same : (old new : Loading) (x y : List ℕ) (len level index : ℕ) �
 stands-same old new x y len level index geometry high tails blocks =
     let g = old.geometry in
     let moved : Loading = record new { geometry = g } in
-    let back : standing_cell new y len level index ≡ standing_cell moved y len level index =
-    ap (λ (z : Geometry). standing_cell (record new { geometry = z }) y len level index) geometry in
-    back ∙ elim (cases_eq (index / block_cells g) (len / block_cells g)) [
+    ap (λ (z : Geometry). standing_cell (record new { geometry = z }) y len level index) geometry ∙ elim (cases_eq (index / block_cells g) (len / block_cells g)) [
       | inl here ↦ stands-tail moved y len level index high here ∙ ap (λ (xs : List ℕ). decoded g.format xs) tails ∙ sym (stands-tail old x len level index high here)
       | inr apart ↦ stands-block moved y len level index high apart ∙ ap (λ (xs : List ℕ). decoded g.format xs) blocks ∙ sym (stands-block old x len level index high apart)
     ]
@@ -111,9 +104,7 @@ differ bottom l i level index low_l low inside within apart same =
 -- the number of a cell of the front
 pub front-number : (block level index : ℕ) → index < slot_size level → level + 2 < block → number_of level 0 index < 2 ^ block + 2 ^ block
 front-number block level index within low =
-    let below : number_of level 0 index < 2 ^ (block + 1) = front-below block level 0 index (omega arith) within low in
-    let twice : 2 ^ (block + 1) ≡ 2 ^ block + 2 ^ block = next_power block (block + 1) (omega arith) in
-    omega (arith, below, twice)
+    omega (arith, front-below block level 0 index (omega arith) within low, next_power block (block + 1) (omega arith))
 
 -- a cell that was put into the front
 module _ (loading : Loading) (front : FrontCells) (bytes : List ℕ) (level index : ℕ) (cell : Cell) (low : level ≤ loading.geometry.bottom) (inside : level + 2 < loading.geometry.block_exp)
@@ -122,15 +113,14 @@ module _ (loading : Loading) (front : FrontCells) (bytes : List ℕ) (level inde
   abbrev put-front : Loading
   put-front = record loading { front = front }
 
-  at-number : cell_at front (number_of level 0 index) ≡ Some cell
-  at-number = ap (λ (f : FrontCells). cell_at f (number_of level 0 index)) is ∙ get_or-set_same loading.front.cells (number_of level 0 index) (Some cell) None room
-
   at-other : (n : ℕ) → n ≢ number_of level 0 index → cell_at front n ≡ cell_at loading.front n
   at-other n apart = ap (λ (f : FrontCells). cell_at f n) is ∙ get_or-set_other loading.front.cells (number_of level 0 index) n (Some cell) None apart
 
   pub front-put : HasMore loading put-front level index cell bytes bytes
   front-put = record {
-    is = stands-front put-front bytes (index + 1) level index inside ∙ at-number;
+    is =
+        stands-front put-front bytes (index + 1) level index inside
+        ∙ ap (λ (f : FrontCells). cell_at f (number_of level 0 index)) is ∙ get_or-set_same loading.front.cells (number_of level 0 index) (Some cell) None room;
     same = λ i before.
         stands-front put-front bytes (index + 1) level i inside
         ∙ at-other (number_of level 0 i) (differ loading.geometry.bottom level i level index low low (omega (arith, before, within)) within (inr (λ e. omega (arith, e, before))))
@@ -169,9 +159,6 @@ module _ (loading : Loading) (tails x y : List ℕ) (level index : ℕ) (cell : 
   tail-stays l i device apart =
       ap (λ (xs : List ℕ). cell_bytes h.format xs (tail_number h l i)) is ∙ put-stays h loading.tails (spelling h.format cell) level index h.block_fits on many spelled.size l i device apart
 
-  tails-long : length tails ≡ tails_bytes h
-  tails-long = ap (λ (xs : List ℕ). length xs) is ∙ put-many h loading.tails (spelling h.format cell) level index h.block_fits on many spelled.size ∙ many
-
   back : decoded h.format (spelling h.format cell) ≡ Some cell
   back = comes_back h.format cell (spelling h.format cell) spelled
 
@@ -206,6 +193,7 @@ module _ (loading : Loading) (tails x y : List ℕ) (level index : ℕ) (cell : 
   -- the block is full and was written
   pub put-last : IsFull (block_cells h) index → y ≡ splice x (block_number h level 0 index * block_bytes h) (tail_of h tails level) → HasMore loading put-tail level index cell x y
   put-last full stays =
+      let tails-long = ap length is ∙ put-many h loading.tails (spelling h.format cell) level index h.block_fits on many spelled.size ∙ many in
       let tail = tail_many h tails level h.block_fits on tails-long in
       let place = in-slot h.bottom level index low within in
       let behind : (i : ℕ) → i < index + 1 → i / block_cells h ≢ (index + 1) / block_cells h =
@@ -231,54 +219,34 @@ module _ (loading : Loading) (tails x y : List ℕ) (level index : ℕ) (cell : 
         others = beside (λ l i high_l low_l inside apart. others l i high_l low_l inside (inl apart));
       }
 
--- whether a block is full
-amid-of : (g : Geometry) (n : ℕ) → fills g n ≡ false → IsMore (block_cells g) n
-amid-of g n e = elim (next-split (block_cells g) n (pow_pos g.block_exp)) [
-  | inl more ↦ more
-  | inr full ↦ absurd (false≢true (sym e ∙ eq-eqb ((n + 1) % block_cells g) 0 full.place_is))
-]
-
-full-of : (g : Geometry) (n : ℕ) → fills g n ≡ true → IsFull (block_cells g) n
-full-of g n e = elim (next-split (block_cells g) n (pow_pos g.block_exp)) [
-  | inl more ↦ absurd (let z : (n + 1) % block_cells g ≡ 0 = eqb-true ((n + 1) % block_cells g) 0 e in let m = more.place_is in omega (arith, z, m))
-  | inr full ↦ full
-]
-
--- what putting a cell into the front says where bytes are told
-pub puts-front : {T : Type 0} (E : Type 0) (value : T) (told : Option (List ℕ)) (loading : Loading) (front : FrontCells) (level index : ℕ) (cell : Cell) → level ≤ loading.geometry.bottom → level + 2 < loading.geometry.block_exp
-    → index < slot_size level → number_of level 0 index < length loading.front.cells → front ≡ record loading.front { cells = set loading.front.cells (number_of level 0 index) (Some cell) }
-    → Both told told (Puts {T = T} {E = E} (Ok value) loading (record loading { front = front }) level index cell)
-puts-front {T} E value told loading front level index cell low inside within room is =
-    both-same told (Puts {T = T} {E = E} (Ok value) loading (record loading { front = front }) level index cell) (λ x. front-put loading front x level index cell low inside within room is)
-
 -- what putting one into a tail says
 module _ {T E : Type 0} (loading : Loading) (tails : List ℕ) (level index : ℕ) (cell : Cell) (low : level ≤ loading.geometry.bottom) (high : loading.geometry.block_exp ≤ level + 2)
     (within : index < slot_size level) (many : length loading.tails ≡ tails_bytes loading.geometry)
     (spelled : IsSpelling loading.geometry.format cell (spelling loading.geometry.format cell))
     (is : tails ≡ splice loading.tails (width loading.geometry.format * tail_number loading.geometry level index) (spelling loading.geometry.format cell)) where
-  puts-written : (result : Result T E) (a b : Option (List ℕ)) → fills loading.geometry index ≡ true → HasRange a 0 (file_bytes loading.geometry) → WroteTail result loading.geometry tails level 0 index a b
+  puts-written : (result : Result T E) (a b : Option (List ℕ)) → IsFull (block_cells loading.geometry) index → HasRange a 0 (file_bytes loading.geometry) → WroteTail result loading.geometry tails level 0 index a b
       → Both a b (Puts result loading (record loading { tails = tails }) level index cell)
   puts-written (Err fault) a b full inside wrote = both-so a b _ _ (λ x y w. tt) wrote
   puts-written (Ok value) a b full inside wrote = both-given a b inside wrote (λ x y long w.
-      put-last loading tails x y level index cell low high within many (omega (arith, long)) spelled is (full-of loading.geometry index full)
+      put-last loading tails x y level index cell low high within many (omega (arith, long)) spelled is full
       (w.others_stay ∙ ap (λ (left : List ℕ). splice x (block_number loading.geometry level 0 index * block_bytes loading.geometry) left) w.exact))
 
-  puts-kept : (result : Result T E) (a b : Option (List ℕ)) → fills loading.geometry index ≡ false → HasRange a 0 (file_bytes loading.geometry) → b ≡ a
-      → Both a b (Puts result loading (record loading { tails = tails }) level index cell)
-  puts-kept result a b amid inside stays = subst (λ (z : Option (List ℕ)). Both a z (Puts result loading (record loading { tails = tails }) level index cell)) (sym stays) (by-told result a inside)
-    where
-      by-told : (result : Result T E) (z : Option (List ℕ)) → HasRange z 0 (file_bytes loading.geometry) → Both z z (Puts result loading (record loading { tails = tails }) level index cell)
-      by-told result None h = tt
-      by-told (Err fault) (Some x) h = tt
-      by-told (Ok value) (Some x) h = put-amid loading tails x x level index cell low high within many (omega (arith, h)) spelled is (amid-of loading.geometry index amid) refl
+  puts-kept : (result : Result T E) (a : Option (List ℕ)) → IsMore (block_cells loading.geometry) index → HasRange a 0 (file_bytes loading.geometry)
+      → Both a a (Puts result loading (record loading { tails = tails }) level index cell)
+  puts-kept result None amid inside = tt
+  puts-kept (Err fault) (Some x) amid inside = tt
+  puts-kept (Ok value) (Some x) amid inside = put-amid loading tails x x level index cell low high within many (omega (arith, inside)) spelled is amid refl
 
   pub puts-tail : (result : Result T E) (a b : Option (List ℕ)) → HasRange a 0 (file_bytes loading.geometry) → TailPushed (fills loading.geometry index) result loading.geometry tails level 0 index a b
       → Both a b (Puts result loading (record loading { tails = tails }) level index cell)
-  puts-tail result a b inside pushed = by-test (fills loading.geometry index) refl pushed
-    where
-      by-test : (t : Bool) → fills loading.geometry index ≡ t → TailPushed t result loading.geometry tails level 0 index a b → Both a b (Puts result loading (record loading { tails = tails }) level index cell)
-      by-test true e w = puts-written result a b e inside w
-      by-test false e w = puts-kept result a b e inside w.0
+  puts-tail result a b inside pushed =
+      let tested = λ (t : Bool) (e : fills loading.geometry index ≡ t). subst (λ (t : Bool). TailPushed t result loading.geometry tails level 0 index a b) e pushed in
+      elim (next-split (block_cells loading.geometry) index (pow_pos loading.geometry.block_exp)) [
+        | inl more ↦
+            let apart : (index + 1) % block_cells loading.geometry ≢ 0 = λ e. omega (arith, e, more.place_is) in
+            subst (λ (z : Option (List ℕ)). Both a z (Puts result loading (record loading { tails = tails }) level index cell)) (sym (tested false (ne_eqb _ 0 apart)).0) (puts-kept result a more inside)
+        | inr full ↦ puts-written result a b full inside (tested true (eq-eqb _ 0 full.place_is))
+      ]
 
 -- a device that stays keeps its front
 pub front-same : (g : Geometry) (a b : Option (List ℕ)) → b ≡ a → Both a b (StaysInFront g)
@@ -293,8 +261,7 @@ module _ {T E : Type 0} (g : Geometry) (tails : List ℕ) (level index : ℕ) (l
       let place = in-slot g.bottom level index low within in
       let whole : length w.left ≡ block_bytes g = w.as_many ∙ tail in
       let ends = block-fits g g.block_fits level 0 index high place x w.left (omega (arith, long)) whole in
-      let two : 2 ≤ block_number g level 0 index = block-behind g.block_exp level 0 index high in
-      let far : 2 * block_bytes g ≤ block_number g level 0 index * block_bytes g = mul-le-mul_right (block_bytes g) two in
+      let far : 2 * block_bytes g ≤ block_number g level 0 index * block_bytes g = mul-le-mul_right (block_bytes g) (block-behind g.block_exp level 0 index high) in
       record {
         size_stays = ap (λ (xs : List ℕ). length xs) w.others_stay ∙ written-many g g.block_fits level 0 index high place x w.left (omega (arith, long)) whole;
         front_stays = ap (λ (xs : List ℕ). take (2 * block_bytes g) xs) w.others_stay
@@ -305,30 +272,32 @@ module _ {T E : Type 0} (g : Geometry) (tails : List ℕ) (level index : ℕ) (l
   front-pushed true result a b inside w = front-written result a b inside w
   front-pushed false result a b inside w = front-same g a b w.0
 
--- the same of a loader whose parts are these
-module _ {loading self : Loading} (level index : ℕ) (cell : Cell) (is : loading ≡ self) (within : level ≤ self.geometry.bottom) (inside : index < slot_size level) where
-  low-level : level ≤ loading.geometry.bottom
-  low-level = subst (λ (z : Loading). level ≤ z.geometry.bottom) (sym is) within
+-- a loader whose parts are these lies in the same range and has the same levels
+pub same-range : {loading self : Loading} (told : Option (List ℕ)) → loading ≡ self → HasRange told 0 (file_bytes self.geometry) → HasRange told 0 (file_bytes loading.geometry)
+same-range told is = subst (λ (z : Loading). HasRange told 0 (file_bytes z.geometry)) (sym is)
 
+pub same-level : {loading self : Loading} (level : ℕ) → loading ≡ self → level ≤ self.geometry.bottom → level ≤ loading.geometry.bottom
+same-level level is = subst (λ (z : Loading). level ≤ z.geometry.bottom) (sym is)
+
+-- the same of such a loader
+module _ {loading self : Loading} (level index : ℕ) (cell : Cell) (is : loading ≡ self) (within : level ≤ self.geometry.bottom) (inside : index < slot_size level) where
   pub front-put-of : {T : Type 0} (E : Type 0) (value : T) (told : Option (List ℕ)) {front : FrontCells} {number : ℕ} → level + 2 < loading.geometry.block_exp → number_of level 0 index < length loading.front.cells
       → front ≡ record loading.front { cells = set loading.front.cells number (Some cell) } → number ≡ number_of level 0 index
       → Both told told (Puts {T = T} {E = E} (Ok value) self (record loading { front = front }) level index cell)
   front-put-of {T} E value told {front} low room after number-is =
       subst (λ (z : Loading). Both told told (Puts {T = T} {E = E} (Ok value) z (record loading { front = front }) level index cell)) is
-      (puts-front E value told loading front level index cell low-level low inside room (after ∙ ap (λ (n : ℕ). record loading.front { cells = set loading.front.cells n (Some cell) }) number-is))
+      (both-same told (Puts {T = T} {E = E} (Ok value) loading (record loading { front = front }) level index cell)
+      (λ x. front-put loading front x level index cell (same-level level is within) low inside room (after ∙ ap (λ (n : ℕ). record loading.front { cells = set loading.front.cells n (Some cell) }) number-is)))
 
   module _ {T E : Type 0} (result : Result T E) (a b : Option (List ℕ)) (high : loading.geometry.block_exp ≤ level + 2) (room : HasRange a 0 (file_bytes self.geometry)) (tails : List ℕ)
       (pushed : TailPushed (fills loading.geometry index) result loading.geometry tails level 0 index a b) where
-    room-here : HasRange a 0 (file_bytes loading.geometry)
-    room-here = subst (λ (z : Loading). HasRange a 0 (file_bytes z.geometry)) (sym is) room
-
     pub tail-put-of : length loading.tails ≡ tails_bytes loading.geometry → IsSpelling loading.geometry.format cell (spelling loading.geometry.format cell)
         → tails ≡ splice loading.tails (width loading.geometry.format * tail_number loading.geometry level index) (spelling loading.geometry.format cell)
         → Both a b (Puts result self (record loading { tails = tails }) level index cell)
     tail-put-of many spelled after =
         subst (λ (z : Loading). Both a b (Puts result z (record loading { tails = tails }) level index cell)) is
-        (puts-tail loading tails level index cell low-level high inside many spelled after result a b room-here pushed)
+        (puts-tail loading tails level index cell (same-level level is within) high inside many spelled after result a b (same-range a is room) pushed)
 
     pub tail-front-of : length tails ≡ tails_bytes loading.geometry → Both a b (StaysInFront self.geometry)
     tail-front-of many = subst (λ (z : Loading). Both a b (StaysInFront z.geometry)) is
-        (front-pushed loading.geometry tails level index low-level high inside many (fills loading.geometry index) result a b room-here pushed)
+        (front-pushed loading.geometry tails level index (same-level level is within) high inside many (fills loading.geometry index) result a b (same-range a is room) pushed)

@@ -1,7 +1,7 @@
 -- The lengths of runs, the marks of a filled file, and the cells of one row, put level by level from the bottom up.
-use Rattle.std.proofs.Common.{◌≡◌, ℕ, zero, suc, ◌+◌, ◌-◌, ◌*◌, ◌/◌, ◌^◌, ◌<◌, ◌≤◌, List, [], ◌∷◌, ◌++◌, length, take, get_or, refl, sym, ap, subst, ◌∙◌, arith, ◌≢◌, inl, inr, ◌%◌, nat_lt, min, Option, Some, Result, Ok, add-one}
-use Rattle.std.proofs.lemmas.List.{take_more, take_all, get_or_append_left}
-use Rattle.std.proofs.Math.Nat.{pow-le-pow_left, mul_comm, mul-le-mul_left, div-le_self, div-div-eq-div-mul, div-le_of_le-mul, pow-succ', div-mul-le_self, mul_assoc, div-eq_of_lt-le, mul-div-le}
+use Rattle.std.proofs.Common.{◌≡◌, ℕ, zero, suc, ◌+◌, ◌-◌, ◌*◌, ◌/◌, ◌^◌, ◌<◌, ◌≤◌, List, [], ◌∷◌, ◌++◌, length, take, get_or, refl, sym, ap, subst, ◌∙◌, arith, ◌≢◌, inl, inr, ◌%◌, nat_lt, min, Option, Some, Result, Ok, add-one, rules}
+use Rattle.std.proofs.lemmas.List.{take_more, get_or_append_left}
+use Rattle.std.proofs.Math.Nat.{pow-le-pow_left, mul_comm, mul-le-mul_left, div-le_self, div-div-eq-div-mul, div-le_of_le-mul, pow-succ', div-mul-le_self, mul_assoc, div-eq_of_lt-le, mul-div-le, one-le-pow}
 use Rattle.std.proofs.lemmas.Nat.{pow-add, pow_pos, le-div}
 use Rattle.cola_cell.specs.Format.{stamp_limit}
 use Rattle.cola_clock.specs.Marks.{AreLevelMarks, AreAllMarks}
@@ -9,35 +9,30 @@ use Rattle.cola_laws.proofs.Empty.{step-zero}
 use Rattle.cola_layout.specs.declared.geometry.Geometry.{Geometry}
 use Rattle.cola_layout.specs.declared.marks.Marks.{Marks}
 use Rattle.cola_layout.specs.Header.{IsSound}
-use Rattle.cola_layout.specs.Marks.{AreMarks, all_numbers, numbers_of, no_marks}
+use Rattle.cola_layout.specs.Marks.{all_numbers, numbers_of, no_marks}
 use Rattle.cola_load.specs.Filled.{run_len, filled_marks, marks_from, filled_header, Row, row_at, no_row, filled_cell}
 use Rattle.std.proofs.lemmas.Bool.{lt-ltb, le-ltb, cases_lt, cases_eq}
+use Rattle.std.proofs.lemmas.Bool.Decides.{nat_tests}
 use Rattle.std.proofs.Math.Seq.{get_or-append_seam}
 use Rattle.cola_outside.specs.Told.{Both}
 use Rattle.cola_cell.specs.declared.cell.Cell.{Cell}
 use Rattle.cola_cell.specs.Places.{slot_size}
 use Rattle.cola_device.specs.declared.counts.Counts.{Counts}
 use Rattle.cola_device.specs.declared.device.DeviceFault.{DeviceFault}
-use Rattle.cola_device.specs.Bytes.{HasRange}
 use Rattle.cola_device.specs.Counts.{Called}
 use Rattle.cola_run.specs.Cells.{block_cells, block_bytes, device_levels}
-use Rattle.cola_run.proofs.Spots.{choose-then, choose-else, both-so}
+use Rattle.cola_run.proofs.Spots.{choose-then, choose-else, both-so, both-two}
 use Rattle.cola_load.specs.Loading.{Loading, SameRows, HasMore, HasCells, Puts, PutsRow, StaysInFront, standing_cell, len_amid, row_cell, full_below, full_blocks, filled_by}
 use Rattle.cola_front.proofs.Writes.{called_two}
-use Rattle.cola_load.proofs.Placing.{some-given, both-then}
 
--- powers of eight
-pub eight-next : (h : ℕ) → 8 ^ suc h ≡ 8 * 8 ^ h
-eight-next h = pow-succ' 8 h
-
+-- a power of eight is not zero
 pub eight-some : (h : ℕ) → 0 < 8 ^ h
-eight-some zero = omega arith
-eight-some (suc h) = let e = eight-next h in let i = eight-some h in omega (arith, e, i)
+eight-some h = omega (arith, one-le-pow h 8 (omega arith))
 
 -- a run is an eighth of the run below it
 pub next-run : (rows h : ℕ) → run_len rows (suc h) ≡ run_len rows h / 8
 next-run rows h =
-    ap (λ (n : ℕ). rows / n) (eight-next h ∙ mul_comm 8 (8 ^ h)) ∙ sym (div-div-eq-div-mul rows (8 ^ h) 8)
+    ap (λ (n : ℕ). rows / n) (pow-succ' 8 h ∙ mul_comm 8 (8 ^ h)) ∙ sym (div-div-eq-div-mul rows (8 ^ h) 8)
 
 -- a run fits its slot
 pub run-fits : (rows h j bottom : ℕ) → j + h ≡ bottom → rows ≤ 2 ^ (bottom + 2) → run_len rows h ≤ 2 ^ (j + 2)
@@ -46,8 +41,7 @@ run-fits rows h j bottom is few =
     let same : j + 2 + h ≡ bottom + 2 = omega (arith, is) in
     let top : 2 ^ (bottom + 2) ≡ 2 ^ (j + 2) * 2 ^ h = subst (λ (n : ℕ). 2 ^ n ≡ 2 ^ (j + 2) * 2 ^ h) same e in
     let more : 2 ^ (j + 2) * 2 ^ h ≤ 2 ^ (j + 2) * 8 ^ h = mul-le-mul_left (2 ^ (j + 2)) (pow-le-pow_left (let t : 2 ≤ 8 = omega arith in t) h) in
-    let back : 2 ^ (j + 2) * 8 ^ h ≡ 8 ^ h * 2 ^ (j + 2) = mul_comm (2 ^ (j + 2)) (8 ^ h) in
-    div-le_of_le-mul (8 ^ h) (omega (arith, few, top, more, back))
+    div-le_of_le-mul (8 ^ h) (omega (arith, few, top, more, mul_comm (2 ^ (j + 2)) (8 ^ h)))
 
 -- the marks of the levels of a filled file
 pub marks-many : (rows h : ℕ) → length (marks_from rows h) ≡ h + 1
@@ -66,9 +60,6 @@ pub marks-more : (rows bottom k : ℕ) → k ≤ bottom → take k (marks_from r
 marks-more rows bottom k within =
     sym (take_more (marks_from rows bottom) k no_marks (omega (arith, marks-many rows bottom, within))
     ∙ ap (λ (m : Marks). take k (marks_from rows bottom) ++ m ∷ []) (mark-at rows bottom k within))
-
-pub marks-whole : (rows bottom : ℕ) → take (bottom + 1) (marks_from rows bottom) ≡ marks_from rows bottom
-marks-whole rows bottom = let many = marks-many rows bottom in take_all (bottom + 1) (marks_from rows bottom) (omega (arith, many))
 
 level-filled : (j above len : ℕ) (below : List Marks) → len ≤ 2 ^ (j + 2) → AreLevelMarks 0 0 j above (numbers_of (filled_marks len)) (all_numbers below)
 level-filled j above len below fits = record {
@@ -94,9 +85,6 @@ filled-from rows j (suc h) above bottom is few = (
   filled-from rows (suc j) h (run_len rows (suc h)) bottom (omega (arith, is)) few,
 )
 
-pub marks-filled : (rows bottom : ℕ) → rows ≤ 2 ^ (bottom + 2) → AreMarks 0 (marks_from rows bottom)
-marks-filled rows bottom few = filled-from rows 0 bottom 0 bottom (omega arith) few
-
 -- the header of a filled file keeps the rules of headers
 pub filled-sound-header : (geometry : Geometry) (last many : ℕ) → last ≤ stamp_limit geometry.format → many ≤ geometry.keys → IsSound (filled_header geometry last many)
 filled-sound-header geometry last many within few = record {
@@ -107,7 +95,7 @@ filled-sound-header geometry last many within few = record {
   clock_fits = pow_pos (geometry.bottom + 1);
   last_fits = within;
   one_each = marks-many many geometry.bottom;
-  marks_fit = marks-filled many geometry.bottom (omega (arith, few, geometry.bottom_fits.holds));
+  marks_fit = filled-from many 0 geometry.bottom 0 geometry.bottom (omega arith) (omega (arith, few, geometry.bottom_fits.holds));
 }
 
 -- ---- the cells of one row, put level by level from the bottom up
@@ -132,8 +120,7 @@ exact-of rows height index is =
 pub exact-next : (rows height index : ℕ) → 8 ^ height * (index + 1) ≡ rows + 1 → (index + 1) % 8 ≡ 0 → 8 ^ (height + 1) * (index / 8 + 1) ≡ rows + 1
 exact-next rows height index is whole =
     let up : 8 * (index / 8 + 1) ≡ index + 1 = omega (arith, whole) in
-    let e : 8 ^ (height + 1) ≡ 8 * 8 ^ height = ap (λ (n : ℕ). 8 ^ n) (add-one height) ∙ eight-next height in
-    ap (λ (n : ℕ). n * (index / 8 + 1)) (e ∙ mul_comm 8 (8 ^ height))
+    ap (λ (n : ℕ). n * (index / 8 + 1)) (ap (λ (n : ℕ). 8 ^ n) (add-one height) ∙ pow-succ' 8 height ∙ mul_comm 8 (8 ^ height))
     ∙ mul_assoc (8 ^ height) 8 (index / 8 + 1)
     ∙ ap (λ (n : ℕ). 8 ^ height * n) up ∙ is
 
@@ -170,21 +157,17 @@ amid-whole rows k index exact rest height = elim (cases_lt height (k + 1)) [
 ]
 
 -- rows behind which one was added
-row-before : (rows : List Row) (row : Row) (i : ℕ) → i < length rows → row_at (rows ++ row ∷ []) i ≡ row_at rows i
-row-before rows row i h = get_or_append_left rows (row ∷ []) no_row i h
-
 row-last : (rows : List Row) (row : Row) (i : ℕ) → i ≡ length rows → row_at (rows ++ row ∷ []) i ≡ row
 row-last rows row i e = ap (λ (n : ℕ). row_at (rows ++ row ∷ []) n) e ∙ get_or-append_seam rows row [] no_row
 
 filled-before : (rows : List Row) (row : Row) (height i : ℕ) → i < run_len (length rows) height → filled_cell (rows ++ row ∷ []) height i ≡ filled_cell rows height i
 filled-before rows row zero i h =
-    let e : i < length rows = (let d : length rows / 1 ≡ length rows = omega arith in omega (arith, h, d)) in
-    ap (λ (r : Row). row_cell r zero i) (row-before rows row i e)
+    let d : length rows / 1 ≡ length rows = omega arith in ap (λ (r : Row). row_cell r zero i) (get_or_append_left rows (row ∷ []) no_row i (omega (arith, h, d)))
 filled-before rows row (suc height) i h =
     let m : 8 ^ suc height * (length rows / 8 ^ suc height) ≤ length rows = mul-div-le (length rows) (8 ^ suc height) in
     let more : 8 ^ suc height * suc i ≤ 8 ^ suc height * (length rows / 8 ^ suc height) = mul-le-mul_left (8 ^ suc height) h in
     let one : 8 ^ suc height * suc i ≡ 8 ^ suc height * i + 8 ^ suc height = omega arith in
-    ap (λ (r : Row). row_cell r (suc height) i) (row-before rows row (8 ^ suc height * suc i - 1) (omega (arith, m, more, eight-some (suc height), one)))
+    ap (λ (r : Row). row_cell r (suc height) i) (get_or_append_left rows (row ∷ []) no_row (8 ^ suc height * suc i - 1) (omega (arith, m, more, eight-some (suc height), one)))
 
 filled-last : (rows : List Row) (row : Row) (height index : ℕ) → 8 ^ height * (index + 1) ≡ length rows + 1 → filled_cell (rows ++ row ∷ []) height index ≡ row_cell row height index
 filled-last rows row zero index is = ap (λ (r : Row). row_cell r zero index) (row-last rows row index (let o : 8 ^ 0 ≡ 1 = refl in omega (arith, is)))
@@ -240,25 +223,13 @@ amid-next old new next row k index x y z first second few low_k is cells more ro
       | inr apart ↦
           let len = amid-same n k height apart in
           let inside : i < len_amid n k height = subst (λ (m : ℕ). i < m) len within in
-          let fits : len_amid n k height ≤ slot_size (bottom - height) = amid-fits n k height bottom low_h few in
+          let most : run_len (n + 1) height ≤ slot_size (bottom - height) = run-fits (n + 1) height (bottom - height) bottom (omega (arith, low_h)) few in
+          let least : run_len n height ≤ slot_size (bottom - height) = run-fits n height (bottom - height) bottom (omega (arith, low_h)) (omega (arith, few)) in
+          let fits : len_amid n k height ≤ slot_size (bottom - height) = grind (arith, nat_tests) in
           ap (λ (m : ℕ). standing_cell next z m (bottom - height) i) len
           ∙ more.others (bottom - height) i (len_amid n k height) (omega (arith, one)) (λ e. omega (arith, e, apart, low_h, low_k)) (omega (arith, inside, fits))
           ∙ before i inside
     ]
-  where
-    amid-fits : (n k height bottom : ℕ) → height ≤ bottom → n + 1 ≤ 2 ^ (bottom + 2) → len_amid n k height ≤ slot_size (bottom - height)
-    amid-fits n k height bottom low few = elim (cases_lt height k) [
-      | inl below ↦ subst (λ (m : ℕ). m ≤ slot_size (bottom - height)) (sym (amid-below n k height below)) (run-fits (n + 1) height (bottom - height) bottom (omega (arith, low)) few)
-      | inr above ↦ subst (λ (m : ℕ). m ≤ slot_size (bottom - height)) (sym (amid-above n k height above)) (run-fits n height (bottom - height) bottom (omega (arith, low)) (omega (arith, few)))
-    ]
-
--- all levels are done
-pub amid-end : (old new : Loading) (row : Row) (k : ℕ) (x y : List ℕ) → new.geometry ≡ old.geometry → ((height : ℕ) → height ≤ old.geometry.bottom → len_amid old.rows k height ≡ run_len (old.rows + 1) height) → PutsAmid old new row k x y
-    → (rows : List Row) → length rows ≡ old.rows → HasCells old (run_len old.rows) rows x → HasCells new (run_len (old.rows + 1)) (rows ++ row ∷ []) y
-amid-end old new row k x y geometry whole cells rows many held height index low within =
-    let low_h : height ≤ old.geometry.bottom = (let b : new.geometry.bottom ≡ old.geometry.bottom = ap (λ (g : Geometry). g.bottom) geometry in omega (arith, low, b)) in
-    let e = whole height low_h in
-    ap (λ (m : ℕ). standing_cell new y m (new.geometry.bottom - height) index) (sym e) ∙ cells rows many held height index low (subst (λ (m : ℕ). index < m) (sym e) within)
 
 -- ---- what a row writes
 
@@ -275,78 +246,37 @@ below-rise g rows more (suc k) h =
 abbrev pub row_fills : Geometry → ℕ → ℕ → ℕ
 row_fills g n k = full_below g (n + 1) (min k (device_levels g)) - full_below g n (min k (device_levels g))
 
-fills-more : (g : Geometry) (n k : ℕ) → full_below g (n + 1) k - full_below g n k ≤ full_below g (n + 1) (suc k) - full_below g n (suc k)
-fills-more g n k =
-    let d : run_len n k / block_cells g ≤ run_len (n + 1) k / block_cells g = div-up (run_len n k) (run_len (n + 1) k) (block_cells g) (pow_pos g.block_exp) (div-up n (n + 1) (8 ^ k) (eight-some k) (omega arith)) in
-    omega (arith, below-rise g n (n + 1) k (omega arith), d)
-
-fills-rise : (g : Geometry) (n d k : ℕ) → full_below g (n + 1) k - full_below g n k ≤ full_below g (n + 1) (d + k) - full_below g n (d + k)
-fills-rise g n zero k = let e : 0 + k ≡ k = omega arith in subst (λ (m : ℕ). full_below g (n + 1) k - full_below g n k ≤ full_below g (n + 1) m - full_below g n m) (sym e) (omega arith)
-fills-rise g n (suc d) k =
-    let e : suc d + k ≡ suc (d + k) = omega arith in
-    subst (λ (x : ℕ). full_below g (n + 1) k - full_below g n k ≤ full_below g (n + 1) x - full_below g n x) (sym e) (omega (arith, fills-rise g n d k, fills-more g n (d + k)))
-
-pub row_fills-most : (g : Geometry) (n k : ℕ) → row_fills g n k ≤ full_blocks g (n + 1) - full_blocks g n
-row_fills-most g n k =
-    let j : ℕ = min k (device_levels g) in
-    let rise = fills-rise g n (device_levels g - j) j in
-    let e : device_levels g - j + j ≡ device_levels g = omega arith in
-    subst (λ (m : ℕ). row_fills g n k ≤ full_below g (n + 1) m - full_below g n m) e rise
+-- for one row more the levels up to one fill no more than those up to a higher one
+fills-rise : (g : Geometry) (n k m : ℕ) → k ≤ m → full_below g (n + 1) k - full_below g n k ≤ full_below g (n + 1) m - full_below g n m
+fills-rise g n k zero h = let e : k ≡ 0 = omega (arith, h) in rw e (omega arith)
+fills-rise g n k (suc m) h = elim (cases_eq k (suc m)) [
+  | inl is ↦ subst (λ (j : ℕ). full_below g (n + 1) j - full_below g n j ≤ full_below g (n + 1) (suc m) - full_below g n (suc m)) (sym is) (omega arith)
+  | inr apart ↦
+      let d = div-up (run_len n m) (run_len (n + 1) m) (block_cells g) (pow_pos g.block_exp) (div-up n (n + 1) (8 ^ m) (eight-some m) (omega arith)) in
+      omega (arith, fills-rise g n k m (omega (arith, h, apart)), below-rise g n (n + 1) m (omega arith), d)
+]
 
 -- a level more
 pub row_fills-next : (g : Geometry) (n k index : ℕ) → k ≤ g.bottom → IsExact n k index → row_fills g n k + filled_by g (g.bottom - k) index ≤ row_fills g n (k + 1)
-row_fills-next g n k index low exact = elim (cases_lt (g.bottom - k + 2) g.block_exp) [
+row_fills-next g n k index low exact = let f : ℕ → ℕ = λ m. full_below g (n + 1) m - full_below g n m in elim (cases_lt (g.bottom - k + 2) g.block_exp) [
   | inl front ↦
       let none : filled_by g (g.bottom - k) index ≡ 0 = choose-then (nat_lt (g.bottom - k + 2) g.block_exp) 0 ((index + 1) / block_cells g - index / block_cells g) (lt-ltb (g.bottom - k + 2) g.block_exp front) in
       let all : min k (device_levels g) ≡ min (k + 1) (device_levels g) = omega (arith, front, low) in
-      let c : row_fills g n k ≡ row_fills g n (k + 1) = ap (λ (m : ℕ). full_below g (n + 1) m - full_below g n m) all in
-      omega (arith, none, c)
+      omega (arith, none, ap f all)
   | inr device ↦
       let one : filled_by g (g.bottom - k) index ≡ (index + 1) / block_cells g - index / block_cells g =
       choose-else (nat_lt (g.bottom - k + 2) g.block_exp) 0 ((index + 1) / block_cells g - index / block_cells g) (le-ltb (g.bottom - k + 2) g.block_exp device) in
-      let exp = g.block_fits.group in
       let a : min k (device_levels g) ≡ k = omega (arith, device, low) in
       let b : min (k + 1) (device_levels g) ≡ suc k = omega (arith, device, low) in
-      let x : row_fills g n k ≡ full_below g (n + 1) k - full_below g n k = ap (λ (m : ℕ). full_below g (n + 1) m - full_below g n m) a in
-      let y : row_fills g n (k + 1) ≡ full_below g (n + 1) (suc k) - full_below g n (suc k) = ap (λ (m : ℕ). full_below g (n + 1) m - full_below g n m) b in
-      let p : run_len n k / block_cells g ≡ index / block_cells g = ap (λ (m : ℕ). m / block_cells g) exact.old in
-      let q : run_len (n + 1) k / block_cells g ≡ (index + 1) / block_cells g = ap (λ (m : ℕ). m / block_cells g) exact.new in
       let d : index / block_cells g ≤ (index + 1) / block_cells g = div-up index (index + 1) (block_cells g) (pow_pos g.block_exp) (omega arith) in
-      omega (arith, one, x, y, p, q, d, below-rise g n (n + 1) k (omega arith))
+      omega (arith, one, ap f a, ap f b, ap (λ (m : ℕ). m / block_cells g) exact.old, ap (λ (m : ℕ). m / block_cells g) exact.new, d, below-rise g n (n + 1) k (omega arith))
 ]
 
 -- a call that is allowed more
 pub called-within : {T E : Type 0} (result : Result T E) (before now : Counts) (reads writes others more : ℕ) → writes ≤ more → Called before now reads writes others result → Called before now reads more others result
-called-within result before now reads writes others more h c = record {
-  faults_stay = c.faults_stay;
-  cause = c.cause;
-  none_hidden = c.none_hidden;
-  reads_stay = c.reads_stay;
-  reads_rise = c.reads_rise;
-  writes_stay = c.writes_stay;
-  writes_rise = (let w = c.writes_rise in omega (arith, w, h));
-  others_stay = c.others_stay;
-  others_rise = c.others_rise;
-}
-
--- nothing was called
-pub called-none : {T E : Type 0} (value : T) (counts : Counts) → Called {T = T} {E = E} counts counts 0 0 0 (Ok value)
-called-none value counts = record {
-  faults_stay = omega arith;
-  cause = tt;
-  none_hidden = refl;
-  reads_stay = omega arith;
-  reads_rise = omega arith;
-  writes_stay = omega arith;
-  writes_rise = omega arith;
-  others_stay = omega arith;
-  others_rise = omega arith;
-}
+called-within result before now reads writes others more h c = search rules
 
 -- ---- the loop over the levels
-
-pub range-kept : (g : Geometry) (size : ℕ) (a b : Option (List ℕ)) → Both a b (StaysInFront g) → HasRange a 0 size → HasRange b 0 size
-range-kept g size a b stays inside = some-given a b inside stays (λ x y long s. let e = s.size_stays in omega (arith, e, long))
 
 -- the levels up to a height are done
 pub record IsRowed {D K : Type 0} (bytes : D → Option (List ℕ)) (counts : D → Counts) (kept : D → K) (old new : Loading) (before now : D) (row : Row) (done index : ℕ) : Type 0 where
@@ -357,27 +287,18 @@ pub record IsRowed {D K : Type 0} (bytes : D → Option (List ℕ)) (counts : D 
   pub kept_stays : kept now ≡ kept before
   pub called : Called {T = Unit {0}} {E = DeviceFault} (counts before) (counts now) 0 (row_fills old.geometry old.rows done) 0 (Ok (tt {0}))
 
+-- all levels are done
 pub done-told : {T : Type 0} (E : Type 0) (value : T) (old new : Loading) (row : Row) (k : ℕ) (a b : Option (List ℕ)) → new.geometry ≡ old.geometry → ((height : ℕ) → height ≤ old.geometry.bottom → len_amid old.rows k height ≡ run_len (old.rows + 1) height)
     → Both a b (PutsAmid old new row k) → Both a b (PutsRow {T = T} {E = E} (Ok value) old new row)
 done-told {T} E value old new row k a b geometry whole h =
-    both-so a b (PutsAmid old new row k) (PutsRow {T = T} {E = E} (Ok value) old new row) (λ x y cells. amid-end old new row k x y geometry whole cells) h
-
-pub row-room : (old : Loading) → old.rows < old.geometry.keys → old.rows + 1 ≤ 2 ^ (old.geometry.bottom + 2)
-row-room old few = let h = old.geometry.bottom_fits.holds in omega (arith, few, h)
-
--- an index is within its slot
-pub index-fits : (old : Loading) (k index : ℕ) → old.rows < old.geometry.keys → k ≤ old.geometry.bottom → 8 ^ k * (index + 1) ≡ old.rows + 1 → index < slot_size (old.geometry.bottom - k)
-index-fits old k index few low is =
-    let exact = exact-of old.rows k index is in
-    let new = exact.new in
-    omega (arith, run-fits (old.rows + 1) k (old.geometry.bottom - k) old.geometry.bottom (omega (arith, low)) (row-room old few), new)
+    both-so a b (PutsAmid old new row k) (PutsRow {T = T} {E = E} (Ok value) old new row) (λ x y cells rows many held height index low within.
+    let b : new.geometry.bottom ≡ old.geometry.bottom = ap (λ (g : Geometry). g.bottom) geometry in
+    let e = whole height (omega (arith, low, b)) in
+    ap (λ (m : ℕ). standing_cell new y m (new.geometry.bottom - height) index) (sym e) ∙ cells rows many held height index low (subst (λ (m : ℕ). index < m) (sym e) within)) h
 
 pub index-small : (old : Loading) (k index : ℕ) → old.rows < old.geometry.keys → 8 ^ k * (index + 1) ≡ old.rows + 1 → index < 2 ^ 24
 index-small old k index few is =
-    let exact = exact-of old.rows k index is in
-    let most : run_len old.rows k ≤ old.rows = div-le_self old.rows (8 ^ k) in
-    let keys : old.geometry.keys ≤ 2 ^ 24 = old.geometry.keys_in_range.few in
-    omega (arith, most, exact.old, few, keys)
+    omega (arith, div-le_self old.rows (8 ^ k), (exact-of old.rows k index is).old, few, old.geometry.keys_in_range.few)
 
 -- one level is put
 module _ {D K : Type 0} {bytes : D → Option (List ℕ)} {counts : D → Counts} {kept : D → K} {first old here new : Loading} {before now : D} {row : Row} {k index top : ℕ} (first-is : first ≡ old) (here-is : here ≡ new)
@@ -388,17 +309,15 @@ module _ {D K : Type 0} {bytes : D → Option (List ℕ)} {counts : D → Counts
   level-is : here.geometry.bottom - k ≡ old.geometry.bottom - k
   level-is = ap (λ (z : Loading). z.geometry.bottom - k) here-is ∙ ap (λ (g : Geometry). g.bottom - k) rowed.stays.geometry
 
+  -- its index is within its slot
   pub next-index : index < slot_size (here.geometry.bottom - k)
-  next-index = subst (λ (l : ℕ). index < slot_size l) (sym level-is) (index-fits old k index few low rowed.exact)
+  next-index = omega (arith, run-fits (old.rows + 1) k (here.geometry.bottom - k) old.geometry.bottom (omega (arith, low, level-is)) (omega (arith, few, old.geometry.bottom_fits.holds)), (exact-of old.rows k index rowed.exact).new)
 
   module _ {next : Loading} {cell : Cell} (cell_is : cell ≡ row_cell row k index) (stays : SameRows new next) (after : D) where
     next-called : {T : Type 0} {result : Result T DeviceFault} → Called (counts now) (counts after) 0 (filled_by new.geometry (here.geometry.bottom - k) index) 0 result
         → Called (counts before) (counts after) 0 (row_fills old.geometry old.rows (k + 1)) 0 result
     next-called {result} c =
-        let level = here.geometry.bottom - k in
-        let at : Called (counts now) (counts after) 0 (filled_by old.geometry (old.geometry.bottom - k) index) 0 result =
-        subst (λ (l : ℕ). Called (counts now) (counts after) 0 (filled_by old.geometry l index) 0 result) level-is
-        (subst (λ (g : Geometry). Called (counts now) (counts after) 0 (filled_by g level index) 0 result) rowed.stays.geometry c) in
+        let at : Called (counts now) (counts after) 0 (filled_by old.geometry (old.geometry.bottom - k) index) 0 result = rw (rowed.stays.geometry, level-is) at c in
         called-within result (counts before) (counts after) 0 (row_fills old.geometry old.rows k + filled_by old.geometry (old.geometry.bottom - k) index) 0 (row_fills old.geometry old.rows (k + 1))
         (row_fills-next old.geometry old.rows k index low (exact-of old.rows k index rowed.exact))
         (called_two (tt {0}) result (counts before) (counts now) (counts after) 0 (row_fills old.geometry old.rows k) 0 0 (filled_by old.geometry (old.geometry.bottom - k) index) 0 rowed.called at)
@@ -407,17 +326,15 @@ module _ {D K : Type 0} {bytes : D → Option (List ℕ)} {counts : D → Counts
         → Called (counts before) (counts after) 0 (full_blocks old.geometry (old.rows + 1) - full_blocks old.geometry old.rows) 0 result
     next-called-all {result} c =
         called-within result (counts before) (counts after) 0 (row_fills old.geometry old.rows (k + 1)) 0 (full_blocks old.geometry (old.rows + 1) - full_blocks old.geometry old.rows)
-        (row_fills-most old.geometry old.rows (k + 1)) (next-called c)
+        (fills-rise old.geometry old.rows (min (k + 1) (device_levels old.geometry)) (device_levels old.geometry) (omega arith)) (next-called c)
 
     abbrev IsPut : {T : Type 0} → T → Type 0
     IsPut {T} value = Both (bytes now) (bytes after) (Puts {T = T} {E = DeviceFault} (Ok value) new next (here.geometry.bottom - k) index cell)
 
     next-cells : {T : Type 0} (value : T) → IsPut value → Both (bytes before) (bytes after) (PutsAmid old next row (k + 1))
-    next-cells {T} value puts =
-        both-then (bytes before) (bytes now) (bytes after) rowed.cells
-        (subst (λ (c : Cell). Both (bytes now) (bytes after) (Puts {T = T} {E = DeviceFault} (Ok value) new next (old.geometry.bottom - k) index c)) cell_is
-        (subst (λ (l : ℕ). Both (bytes now) (bytes after) (Puts {T = T} {E = DeviceFault} (Ok value) new next l index cell)) level-is puts))
-        (λ x y z. amid-next old new next row k index x y z rowed.stays stays (row-room old few) low rowed.exact)
+    next-cells value puts =
+        both-two (bytes before) (bytes now) (bytes after) _ _ _ (λ x y z. amid-next old new next row k index x y z rowed.stays stays (omega (arith, few, old.geometry.bottom_fits.holds)) low rowed.exact) rowed.cells
+        (rw (level-is, cell_is) at puts)
 
     pub next-done : {T : Type 0} (value : T) → ((index + 1) % 8 ≡ 0 → ⊥) → IsPut value → Both (bytes before) (bytes after) (PutsRow {T = T} {E = DeviceFault} (Ok value) old next row)
     next-done value rest puts =
@@ -431,10 +348,10 @@ module _ {D K : Type 0} {bytes : D → Option (List ℕ)} {counts : D → Counts
       exact = exact-next old.rows k index rowed.exact whole;
       stays = (let was = rowed.stays in record { geometry = stays.geometry ∙ was.geometry; last = stays.last ∙ was.last; rows = stays.rows ∙ was.rows; key = stays.key ∙ was.key });
       cells = next-cells value puts;
-      front = both-then (bytes before) (bytes now) (bytes after) rowed.front front (λ x y z was stay. record {
+      front = both-two (bytes before) (bytes now) (bytes after) _ _ _ (λ x y z was stay. record {
         size_stays = stay.size_stays ∙ was.size_stays;
         front_stays = subst (λ (g : Geometry). take (2 * block_bytes g) z ≡ take (2 * block_bytes g) y) rowed.stays.geometry stay.front_stays ∙ was.front_stays;
-      });
+      }) rowed.front front;
       kept_stays = keeps ∙ rowed.kept_stays;
       called = next-called called;
     }

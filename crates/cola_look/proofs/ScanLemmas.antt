@@ -1,5 +1,5 @@
 -- A search of a window is the search of its run, as far as it goes.
-use Rattle.std.proofs.Common.{◌≡◌, ◌≢◌, inl, inr, ℕ, zero, suc, ◌+◌, ◌-◌, ◌*◌, ◌≤◌, ◌<◌, Bool, true, false, not, if◌then◌else◌, List, length, drop, Option, None, Result, Ok, Err, lit<, refl, sym, ap, subst, ◌∙◌, arith}
+use Rattle.std.proofs.Common.{◌≡◌, ◌≢◌, inl, inr, ℕ, zero, suc, ◌+◌, ◌-◌, ◌*◌, ◌≤◌, ◌<◌, Bool, true, false, not, if◌then◌else◌, List, length, drop, Option, None, Result, Ok, lit<, refl, sym, ap, subst, ◌∙◌, arith}
 use Rattle.std.specs.Ordering.{is_lt, is_eq}
 use Rattle.std.proofs.lemmas.Bool.{true≢false}
 use Rattle.std.proofs.lemmas.List.{length-drop}
@@ -30,7 +30,7 @@ use Rattle.cola_look.specs.declared.scanning.Sight.{Sight}
 use Rattle.cola_look.specs.declared.seeking.Seat.{Seat}
 use Rattle.cola_look.specs.Outcome.{Answers}
 use Rattle.cola_look.specs.Scanning.{Sees, LooksOn, reach_of}
-use Rattle.cola_look.specs.Seek.{first_of, last_of, found_from, found_in, seat_at, as_seat, turns_from}
+use Rattle.cola_look.specs.Seek.{first_of, last_of, found_from, found_in, seat_at, seat_of, as_seat, turns_from}
 use Rattle.cola_look.specs.Turns.{groups, turns_left}
 use Rattle.cola_look.proofs.TurnLemmas.{eight_in_block, turns_on, read_within}
 use Rattle.cola_look.specs.Seeks.{Seeks}
@@ -161,7 +161,7 @@ module _ {run : Run} {next_len start : ℕ} {key : List ℕ} {old mid new : Stat
       }
 
   -- where it stopped at a cell, that is the answer
-  seeks_scanned : sight.stops ≡ true → (seat : Seat) → seat ≡ record { pos = i + sight.passed; hit = sight.hit; link = sight.link } → Seeks run next_len start key old new before after (Ok seat)
+  seeks_scanned : sight.stops ≡ true → (seat : Seat) → seat ≡ seat_of sight (i + sight.passed) → Seeks run next_len start key old new before after (Ok seat)
   seeks_scanned stopped seat is =
       let at = there.sought_is.stops stopped in
       let inside : i + sight.passed < last = let w = at.within in omega (arith, w, most) in
@@ -218,7 +218,7 @@ module _ {run : Run} {next_len start last : ℕ} {key : List ℕ} {old mid new :
   ]
 
   -- one that stopped
-  pub seeks_on : sight.stops ≡ true → (seat : Seat) → seat ≡ record { pos = i + sight.passed; hit = sight.hit; link = sight.link } → Seeks run next_len start key old new before after (Ok seat)
+  pub seeks_on : sight.stops ≡ true → (seat : Seat) → seat ≡ seat_of sight (i + sight.passed) → Seeks run next_len start key old new before after (Ok seat)
   seeks_on stopped seat is = elim seen [
     | inl window ↦ seeks_scanned s low high window.scanned (many window.blank.most window.most_is) stopped seat is
     | inr alone ↦
@@ -226,6 +226,13 @@ module _ {run : Run} {next_len start last : ℕ} {key : List ℕ} {old mid new :
         let here : i + sight.passed ≡ i = omega (arith, none) in
         seeks_found alone.cell seat s low high alone.read alone.one_tick (alone.order_is ∙ ap not stopped)
         (ap as_seat is ∙ alone.seat stopped (i + sight.passed) ∙ ap (λ (n : ℕ). seat_at key n (as_cell alone.cell)) here)
+  ]
+
+  -- and has no item
+  pub misses_on : sight.stops ≡ false → sight.hit ≡ None
+  misses_on goes_on = elim seen [
+    | inl window ↦ window.scanned.sought_is.misses goes_on
+    | inr alone ↦ alone.misses goes_on
   ]
 
   -- what it passed lies before the last cell that a search may read
@@ -237,24 +244,7 @@ module _ {run : Run} {next_len start last : ℕ} {key : List ℕ} {old mid new :
 
 -- ---- a cell that was read alone
 
--- it was refused
-pub refused_on : {old new : State} {to : ℕ} (run : Run) (i most from : ℕ) (key : List ℕ) (fault : ReadFault) (result : Result Sight ReadFault) →
-    Reads old new Search run.level run.slot i (Err fault) → to ≡ from + 1 → result ≡ Err fault → LooksOn old new run i most key from to result
-refused_on {old} {new} {to} run i most from key fault result read tick e =
-    subst (λ (x : Result Sight ReadFault). LooksOn old new run i most key from to x) (sym e) (read, tick)
-
 module _ {old new : State} {run : Run} {i from to : ℕ} {key : List ℕ} (cell : Cell) (sight : Sight) (most : ℕ) (read : Reads old new Search run.level run.slot i (Ok cell)) (tick : to ≡ from + 1) where
-  -- it is below the key
-  pub passes_alone : is_lt (key_cmp (key_of cell) key) ≡ true → sight.passed ≡ 1 → sight.stops ≡ false → LooksOn old new run i most key from to (Ok sight)
-  passes_alone below passed goes_on = inr (record {
-    cell = cell;
-    read = read;
-    one_tick = tick;
-    passed_is = passed ∙ ap (λ (b : Bool). if b then 0 else 1) (sym goes_on);
-    order_is = below ∙ ap not (sym goes_on);
-    seat = λ h. absurd (true≢false (sym h ∙ goes_on));
-  })
-
   -- it is not, and the search stops there
   pub stops_alone : (b : Bool) → is_lt (key_cmp (key_of cell) key) ≡ false → is_eq (key_cmp (key_of cell) key) ≡ b → sight.passed ≡ 0 → sight.stops ≡ true →
       sight.hit ≡ (if b then item_of cell else None) → sight.link ≡ link_of cell → LooksOn old new run i most key from to (Ok sight)
@@ -265,6 +255,7 @@ module _ {old new : State} {run : Run} {i from to : ℕ} {key : List ℕ} (cell 
     passed_is = passed ∙ ap (λ (x : Bool). if x then 0 else 1) (sym stopped);
     order_is = above ∙ ap not (sym stopped);
     seat = λ _ pos. seat_by key pos cell sight.hit sight.link b is_b hit link;
+    misses = λ h. absurd (true≢false (sym stopped ∙ h));
   })
 
 -- ---- where it was asked of the object
@@ -278,13 +269,6 @@ module _ {old mid : State} {run : Run} {i from between n : ℕ} {key : List ℕ}
         subst (λ (x : State). LooksOn x new run i most key from to result) still.state_is
         (subst (λ (x : ℕ). LooksOn mid new run i most key x to result) still.steps_are looks)
     | inr scanned ↦ let more = scanned.ticks_are in absurd (omega (arith, none, more))
-  ]
-
-  -- one that accessed a cell saw a window
-  pub looks_scanned : (n ≡ 0 → ⊥) → blank.most ≡ most → LooksOn old mid run i most key from between (Ok sight)
-  looks_scanned some e = elim scans [
-    | inl still ↦ absurd (some still.none)
-    | inr scanned ↦ inl (record { blank = blank; most_is = e; ticks = n; scanned = scanned })
   ]
 
 -- and it only looked

@@ -1,16 +1,17 @@
 -- What a search of a window saw, by why it stopped.
-use Rattle.std.proofs.Common.{◌≡◌, ◌⊎◌, inl, inr, ℕ, zero, suc, ◌+◌, ◌*◌, ◌≤◌, ◌<◌, length, length-take, drop, Bool, true, false, if◌then◌else◌, List, Option, None, sym, ap, subst, ◌∙◌, arith}
+use Rattle.std.proofs.Common.{◌≡◌, ◌⊎◌, inl, inr, ℕ, zero, suc, ◌+◌, ◌*◌, ◌≤◌, ◌<◌, length, length-take, drop, Bool, true, false, if◌then◌else◌, List, Option, None, refl, sym, ap, subst, ◌∙◌, arith}
 use Rattle.std.specs.declared.cmp.Ordering.{Ordering}
 use Rattle.std.specs.Ordering.{is_lt, is_eq}
 use Rattle.std.proofs.lemmas.Bool.{true≢false}
 use Rattle.cola_cell.specs.declared.cell.Cell.{Cell}
+use Rattle.cola_cell.specs.declared.cell.Cell.TheVariants as cell
 use Rattle.cola_cell.specs.declared.cell.Item.{Item}
 use Rattle.cola_cell.specs.declared.format.Format.{Format}
 use Rattle.cola_cell.specs.Cell.{key_of, link_of}
 use Rattle.cola_cell.specs.Decoded.{standing}
 use Rattle.cola_cell.specs.Held.{as_cell}
 use Rattle.cola_cell.specs.Order.{key_cmp}
-use Rattle.cola_cell.specs.Packed.{item_of}
+use Rattle.cola_cell.specs.Packed.{is_look, item_of}
 use Rattle.cola_cell.specs.Spelling.{IsNoSpelling}
 use Rattle.cola_cell.specs.Format.{width}
 use Rattle.cola_cell.specs.Windows.{AreSpelled}
@@ -28,6 +29,11 @@ pub seat_by : (key : List ℕ) (pos : ℕ) (c : Cell) (hit : Option Item) (link 
     as_seat (record { pos = pos; hit = hit; link = link }) ≡ seat_at key pos (as_cell c)
 seat_by key pos c hit link true e h l = seat_of_hit key pos c hit link e h l
 seat_by key pos c hit link false e h l = seat_of_miss key pos c hit link e h l
+
+-- a lookahead cell has no item
+pub no_item : (c : Cell) → is_look c ≡ true → item_of c ≡ None
+no_item (cell.Item k item young l) e = absurd (true≢false (sym e))
+no_item (cell.Look k l) e = refl
 
 -- it stopped at a cell
 pub sees_at : (before sight : Sight) (key : List ℕ) (format : Format) (bytes : List ℕ) (n ticks : ℕ) (order : Ordering) (b : Bool) → AllBelow format key bytes n → StopsAt format key bytes before.most n order →
@@ -50,18 +56,20 @@ sees_at before sight key format bytes n ticks order b below at not_below is_b pa
       stops = λ _. subst (λ (k : ℕ). StopsThere before.most key format bytes (record { most = sight.most; passed = k; stops = sight.stops; hit = sight.hit; link = sight.link })) (sym passed) there;
       goes_on = λ h. absurd (true≢false (sym stopped ∙ h));
       ticks_are = e ∙ ap (λ (k : ℕ). k + 1) (sym passed) ∙ ap (λ (x : Bool). if x then sight.passed + 1 else sight.passed) (sym stopped);
+      misses = λ h. absurd (true≢false (sym stopped ∙ h));
     }
 
 -- it stopped at none
 pub sees_behind : (before sight : Sight) (key : List ℕ) (format : Format) (bytes : List ℕ) (n ticks : ℕ) → n ≤ before.most → AllBelow format key bytes n →
-    (n ≡ before.most) ⊎ (HasCell format bytes n → IsNoSpelling format (nth format bytes n)) → sight.passed ≡ n → sight.stops ≡ false → ticks ≡ n →
+    (n ≡ before.most) ⊎ (HasCell format bytes n → IsNoSpelling format (nth format bytes n)) → sight.passed ≡ n → sight.stops ≡ false → sight.hit ≡ None → ticks ≡ n →
     Sees before sight key format bytes ticks
-sees_behind before sight key format bytes n ticks few below left passed stopped e = record {
+sees_behind before sight key format bytes n ticks few below left passed stopped none e = record {
   few = omega (arith, passed, few);
   below = subst (λ (k : ℕ). AllBelow format key bytes k) (sym passed) below;
   stops = λ h. absurd (true≢false (sym h ∙ stopped));
   goes_on = λ _. subst (λ (k : ℕ). (k ≡ before.most) ⊎ (HasCell format bytes k → IsNoSpelling format (nth format bytes k))) (sym passed) left;
   ticks_are = e ∙ sym passed ∙ ap (λ (x : Bool). if x then sight.passed + 1 else sight.passed) (sym stopped);
+  misses = λ _. none;
 }
 
 -- and why: as many were passed as it may, or no cell is spelled there

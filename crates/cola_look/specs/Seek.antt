@@ -1,5 +1,5 @@
 -- The search of a run, over what an object tells of its places.
-use Rattle.std.specs.Prelude.{ℕ, zero, suc, ◌+◌, ◌-◌, ◌*◌, ◌/◌, ◌%◌, ◌≤◌, ◌<◌, ◌==◌, min, Bool, false, cond, List, if◌then◌else◌}
+use Rattle.std.specs.Prelude.{ℕ, zero, suc, ◌+◌, ◌-◌, ◌*◌, ◌/◌, ◌%◌, ◌≤◌, ◌<◌, ◌==◌, min, Bool, false, cond, List, if◌then◌else◌, Result, Ok, Err}
 use Rattle.std.specs.declared.option.Option.{Option}
 use Rattle.std.specs.declared.option.Option.TheVariants.{None, Some}
 use Rattle.std.specs.Ordering.{is_lt}
@@ -14,6 +14,7 @@ use Rattle.cola_cell.specs.declared.fault.ReadFault.TheVariants.{Device, BadCell
 use Rattle.cola_cell.specs.Places.{number_of}
 use Rattle.cola_cell.specs.Held.{Held, Spot, Untold, Bad, Told, LawCell, Stamped, as_item}
 use Rattle.cola_cell.specs.Spent.{IsBad}
+use Rattle.cola_look.specs.declared.scanning.Sight.{Sight}
 use Rattle.cola_look.specs.declared.seeking.Seat.{Seat}
 use Rattle.cola_cell.specs.Order.{key_cmp}
 use Rattle.cola_look.specs.Outcome.{Outcome, Found, BadAt, Open}
@@ -71,6 +72,15 @@ seat_of_key key cells next_len =
 -- a seat of the program as one of the laws
 abbrev pub as_seat : Seat → laws.Seat Stamped
 as_seat seat = record { pos = seat.pos; hit = option_map as_item seat.hit; link = seat.link }
+
+-- the seat at a place, with what a room has
+abbrev pub seat_of : Sight → ℕ → Seat
+seat_of sight pos = record { pos = pos; hit = sight.hit; link = sight.link }
+
+-- what a search answers that leaves what it found in a room: the seat at the place where it stopped, or why it was refused
+abbrev pub seat_in : Sight → Result ℕ ReadFault → Result Seat ReadFault
+seat_in sight (Ok pos) = Ok (seat_of sight pos)
+seat_in sight (Err fault) = Err fault
 
 -- a cell of the window of a run whose bytes spell none, and its number
 pub record HasBadIn (held : Held) (run : Run) (start number : ℕ) : Type 0 where

@@ -11,5 +11,6 @@ mod scanning;
 mod seeking;
 mod windowing;
 
-pub use seeking::{Seat, seek};
+pub use scanning::Sight;
+pub use seeking::{Seat, seek, seek_into};
 pub use windowing::{sample_index, window};

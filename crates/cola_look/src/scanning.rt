@@ -1,63 +1,34 @@
 //! A search of a run where the bytes of its cells lie.
-ghost use Rattle.std.specs.Prelude.{◌≡◌, ◌<◌, true, false};
+ghost use Rattle.std.specs.Prelude.{◌≡◌, ◌<◌, None};
 ghost use Rattle.cola_look.specs.Scanning.{Sees};
 
-use cola_cell::{Format, Item, Key, WindowSearch, item_in, link_in};
+use cola_cell::{Format, Item, Key, WindowSearch, is_look_in, item_in, link_in};
 use cola_window::{Stop, nth_cell, seek_window};
 
-/// What a search of a window of at most `most` cells saw: how many it passed, and whether it stopped at the one behind them.
-/// Then the item of the key there, if the cell is one, and the link.
-#[derive(Clone, Copy, Drop)]
-pub(crate) struct Sight {
-    pub most: u32,
-    pub passed: u32,
-    pub stops: bool,
+/// A room for what searches see, made once for as many as there are runs. `hit` is the item of the key: none until a search finds
+/// one, and no search takes it out again. `link` is the index in the next run from which its search begins, in cells.
+#[derive(Drop)]
+pub struct Sight {
     pub hit: Option<Item>,
     pub link: u32,
+    /// How many cells of a window may be looked at, how many were passed, and whether the search stopped at the one behind them.
+    pub(crate) most: u32,
+    pub(crate) passed: u32,
+    pub(crate) stops: bool,
 }
 
 impl Sight {
-    /// A search of at most so many cells that begins.
-    #[inline(always)]
-    pub(crate) fn of(most: u32) -> Sight
-        ensures most { result.most ≡ most }
-        ensures passed { result.passed ≡ 0 }
-        ensures stops { result.stops ≡ false }
-    {
-        let passed = 0;
-        Sight::behind(most, passed)
-    }
-
-    /// A search that stopped at no cell, behind so many.
-    #[inline(always)]
-    pub(crate) fn behind(most: u32, passed: u32) -> Sight
-        ensures most { result.most ≡ most }
-        ensures passed { result.passed ≡ passed }
-        ensures stops { result.stops ≡ false }
+    /// A room for searches that begin.
+    #[inline]
+    pub fn blank() -> Sight
+        ensures { result.hit ≡ None }
     {
         Sight {
-            most,
-            passed,
-            stops: false,
             hit: None,
             link: 0,
-        }
-    }
-
-    /// A search that stopped at the cell behind so many.
-    #[inline(always)]
-    pub(crate) fn at(most: u32, passed: u32, hit: Option<Item>, link: u32) -> Sight
-        ensures passed { result.passed ≡ passed }
-        ensures stops { result.stops ≡ true }
-        ensures hit { result.hit ≡ hit }
-        ensures link { result.link ≡ link }
-    {
-        Sight {
-            most,
-            passed,
-            stops: true,
-            hit,
-            link,
+            most: 0,
+            passed: 0,
+            stops: false,
         }
     }
 }
@@ -67,26 +38,29 @@ impl WindowSearch for Sight {
 
     ghost sought = { Sees };
 
-    ghost can = { λ sight. 0 < sight.most };
+    ghost can = { λ sight. (0 < sight.most) × (sight.hit ≡ None) };
 
     #[inline(always)]
     fn seek(&mut self, probe: &Key, format: Format, bytes: &[u8]) -> u32 {
-        let most = self.most;
-        let (passed, stop) = seek_window(format, bytes, probe, most);
+        let (passed, stop) = seek_window(format, bytes, probe, self.most);
+        self.passed = passed;
         match stop {
             Stop::Equal => {
                 let cell = nth_cell(format, bytes, passed);
-                let (hit, link) = (item_in(format, cell), link_in(format, cell));
-                *self = Sight::at(most, passed, hit, link);
+                self.link = link_in(format, cell);
+                self.stops = true;
+                if !is_look_in(format, cell) {
+                    self.hit = item_in(format, cell);
+                }
                 passed + 1
             }
             Stop::Above => {
-                let link = link_in(format, nth_cell(format, bytes, passed));
-                *self = Sight::at(most, passed, None, link);
+                self.link = link_in(format, nth_cell(format, bytes, passed));
+                self.stops = true;
                 passed + 1
             }
             Stop::Bad | Stop::End => {
-                *self = Sight::behind(most, passed);
+                self.stops = false;
                 passed
             }
         }

@@ -1,7 +1,6 @@
 -- What a call of a merge says, from the steps that it took.
 use Rattle.std.proofs.Common.{◌≡◌, ℕ, ◌+◌, ◌-◌, ◌*◌, ◌≤◌, List, length, map, Some, None, Result, Ok, Err, OnOk, refl, ap, sym, subst, ◌∙◌, arith}
 use Rattle.std.specs.Cmp.Lexicographic.{nat_list_cmp_total}
-use Rattle.std.specs.List.Sorted.{IsStrictlySortedBy}
 use Rattle.cola_runs.specs.Cells as laws
 use Rattle.cola_runs.specs.Cells.{IsRising}
 use Rattle.cola_runs.specs.Steps as runs
@@ -23,11 +22,11 @@ use Rattle.cola_merge.specs.declared.aims.Progress.TheVariants.{Done, More}
 use Rattle.cola_merge.specs.declared.merging.Merger.{Merger}
 use Rattle.cola_cell.specs.ToldCells.{cell_at, shadow_cells}
 use Rattle.cola_cell.specs.Order.{key_cmp}
-use Rattle.cola_merge.specs.Feeds.{part_of, feed_of, feed_len, feed_cells, feed_keys, IsFeedTold, IsBadAt}
+use Rattle.cola_merge.specs.Feeds.{part_of, feed_of, feed_cells, feed_keys, IsFeedTold, IsBadAt}
 use Rattle.cola_merge.specs.Heads.{fresh, fresh_head, head_of, consumed, fetched_of, fetched, IsReady, IsUsedUp, AreFeedsTold, build_of}
 use Rattle.cola_merge.specs.Rules.{next_action, Emits}
-use Rattle.cola_merge.specs.States.{MergeState, len_of, Goes, Took, Refused, IsOverfull, TakesQuota}
-use Rattle.cola_merge.specs.Advance.{Consumes, whole_run, IsGoing, GoesBy, GoesFurther, Gone, IsWhole, HasStepCause, IsCalm, IsDeviceFault, cells_read, IsThrifty, BuildsBy, Advances}
+use Rattle.cola_merge.specs.States.{MergeState, len_of, Goes, Took, IsOverfull, TakesQuota}
+use Rattle.cola_merge.specs.Advance.{Consumes, whole_run, IsGoing, GoesBy, GoesFurther, Gone, IsWhole, HasStepCause, IsCalm, IsDeviceFault, cells_read, refused_push, BuildsBy, Advances}
 use Rattle.cola_cell.proofs.CellLists.{length-cells}
 use Rattle.cola_merge.proofs.Kept.{feed_cells-stay, feeds_told-stay}
 use Rattle.cola_merge.proofs.Reading.{heads_of, three_of}
@@ -38,8 +37,7 @@ use Rattle.cola_merge.proofs.Stepping.{all_read}
 
 goes_of : {aim : Aim} {s t : MergeState} {quota : ℕ} (result : Result Progress StepFault) → TakesQuota aim s t quota result → (count : ℕ) × (count ≤ quota) × Goes aim s t count
 goes_of {quota = quota} (Ok More) r = (quota, omega arith, r.steps.0.goes)
-goes_of (Ok Done) r = (r.steps.0, r.steps.1, r.steps.2.goes)
-goes_of (Err fault) r = (r.steps.0, (let h = r.steps.1 in omega (arith, h)), r.steps.2.goes)
+goes_of _ r = (r.steps.0, (let h = r.steps.1 in omega (arith, h)), r.steps.2.goes)
 
 consumes_of : {aim : Aim} {s t : MergeState} {quota : ℕ} (result : Result Progress StepFault) → TakesQuota aim s t quota result → Consumes aim s.merger t.merger quota result
 consumes_of (Ok More) r = (r.steps.0.goes.consumes, r.steps.1)
@@ -70,23 +68,16 @@ module _ {aim : Aim} (s t : MergeState) (r : IsReady s.held aim s.merger) (going
     tells = telling_stays s.held t.held aim.level g.grows.around going.tells;
     feeds = feeds_told-stay g.grows r going.feeds;
     shadow = g.told going.tells going.shadow;
-    own_rises = subst (IsRising key_cmp) (sym (own_same g)) going.own_rises;
-    incoming_rises = subst (IsRising key_cmp) (sym (incoming_same g)) going.incoming_rises;
-    keys_rise = subst (IsStrictlySortedBy key_cmp) (sym (keys_same g)) going.keys_rise;
-    under_way =
-        subst (λ (x : List LawCell). IsUnderWay key_cmp (part_of aim) x (feed_cells t.held aim.incoming) (feed_keys t.held aim.sample) (build_of t.held aim t.merger)) (sym (own_same g))
-        (subst (λ (x : List LawCell). IsUnderWay key_cmp (part_of aim) (feed_cells s.held aim.own) x (feed_keys t.held aim.sample) (build_of t.held aim t.merger)) (sym (incoming_same g))
-        (subst (λ (x : List (List ℕ)). IsUnderWay key_cmp (part_of aim) (feed_cells s.held aim.own) (feed_cells s.held aim.incoming) x (build_of t.held aim t.merger)) (sym (keys_same g))
-        (advanced g).under_way));
+    own_rises = rw (own_same g) going.own_rises;
+    incoming_rises = rw (incoming_same g) going.incoming_rises;
+    keys_rise = rw (keys_same g) going.keys_rise;
+    under_way = rw (own_same g, incoming_same g, keys_same g) (advanced g).under_way;
   }
 
   -- no source cell is left
   none_left : IsUsedUp aim t.merger → cells_left (feed_cells s.held aim.own) (feed_cells s.held aim.incoming) (feed_keys s.held aim.sample) (build_of t.held aim t.merger) ≡ 0
   none_left u =
-      let a : length (feed_cells s.held aim.own) ≡ feed_len aim.own = feed_length s.held aim.own in
-      let b : length (feed_cells s.held aim.incoming) ≡ feed_len aim.incoming = feed_length s.held aim.incoming in
-      let c : length (feed_keys s.held aim.sample) ≡ feed_len aim.sample = keys_length s.held aim.sample in
-      omega (arith, a, b, c, u.own, u.incoming, u.sample)
+      omega (arith, feed_length s.held aim.own, feed_length s.held aim.incoming, keys_length s.held aim.sample, u.own, u.incoming, u.sample)
 
   -- where it is done, it took as many steps as it could of any larger quota
   done_advanced : {count quota : ℕ} → Goes aim s t count → count ≤ quota → IsUsedUp aim t.merger → GoesBy s.held t.held aim s.merger t.merger quota
@@ -121,8 +112,7 @@ module _ {aim : Aim} (s t : MergeState) (r : IsReady s.held aim s.merger) (going
   whole_of (Err fault) k = tt
 
   whole_same : {count : ℕ} → Goes aim s t count → whole_run t.held aim ≡ whole_run s.held aim
-  whole_same g =
-      let a = own_same g in let b = incoming_same g in let c = keys_same g in cc
+  whole_same g = rw (own_same g, incoming_same g, keys_same g)
 
 -- ---- refusals
 
@@ -130,8 +120,7 @@ module _ {aim : Aim} (s t : MergeState) (r : IsReady s.held aim s.merger) (going
 never_bad : (held : Held) (f : Feed) (at number : ℕ) → IsFeedTold held f → IsBadAt held f at number → ⊥
 never_bad held (feed.Run run) at number t b = told_is_good (held.spots run.level run.slot at) (cell_at (held.spots run.level run.slot at)) (t at b.0) b.1.told
 never_bad held (feed.Sampled run) at number t b = told_is_good (held.spots run.level run.slot (8 * at + 7)) (cell_at (held.spots run.level run.slot (8 * at + 7))) (t at b.0) b.1.told
-never_bad held (feed.One c) at number t b = b
-never_bad held feed.Nothing at number t b = b
+never_bad held _ at number t b = b
 
 told_feed : {held : Held} {aim : Aim} (reader : Reader) → AreFeedsTold held aim → IsFeedTold held (feed_of aim reader)
 told_feed Own t = t.own
@@ -158,8 +147,7 @@ cause_of (Err fault) k = k.steps.2.cause
 
 calm_of : {aim : Aim} {s t : MergeState} {quota : ℕ} (result : Result Progress StepFault) → TakesQuota aim s t quota result → IsCalm s.spent.faults t.spent.faults result
 calm_of (Ok More) k = k.steps.0.calm
-calm_of (Ok Done) k = k.steps.2.calm
-calm_of (Err fault) k = k.steps.2.calm
+calm_of _ k = k.steps.2.calm
 
 only_of : {aim : Aim} {s t : MergeState} {quota : ℕ} (result : Result Progress StepFault) → IsReady s.held aim s.merger → TakesQuota aim s t quota result → IsGoing s.held aim s.merger →
     length (whole_run s.held aim) ≤ slot_size aim.level → IsDeviceFault result
@@ -177,42 +165,26 @@ only_of {aim} {s} {t} (Err (Overfull level)) r k going fits =
 
 ticks_of : {aim : Aim} {s t : MergeState} {quota : ℕ} (result : Result Progress StepFault) → TakesQuota aim s t quota result → t.steps ≤ s.steps + (3 + 2 * quota)
 ticks_of {s = s} {t = t} (Ok More) k = let m = three_of s.merger in let h = k.steps.0.ticks in omega (arith, m, h)
-ticks_of {s = s} {t = t} (Ok Done) k = let m = three_of s.merger in let h = k.steps.2.ticks in let l = k.steps.1 in omega (arith, m, h, l)
-ticks_of {s = s} {t = t} (Err fault) k = let m = three_of s.merger in let h = k.steps.2.ticks in let l = k.steps.1 in omega (arith, m, h, l)
+ticks_of {s = s} {t = t} _ k = let m = three_of s.merger in let h = k.steps.2.ticks in let l = k.steps.1 in omega (arith, m, h, l)
 
 fresh_of : (f : Feed) → fetched_of f fresh_head ≡ 0
 fresh_of (feed.Run run) = refl
-fresh_of (feed.Sampled run) = refl
-fresh_of (feed.One c) = refl
-fresh_of feed.Nothing = refl
+fresh_of _ = refl
 
 fresh_fetched : (aim : Aim) (m : Merger) → m ≡ fresh → fetched aim m ≡ 0
 fresh_fetched aim m e = ap (λ (x : Merger). fetched aim x) e ∙ (let a = fresh_of aim.own in let b = fresh_of aim.incoming in let c = fresh_of aim.sample in omega (arith, a, b, c))
 
-thrifty_ok : {aim : Aim} {s t : MergeState} {count : ℕ} (result : Result Progress StepFault) → Took aim s t count → len_of aim s ≤ slot_size aim.level → s.merger ≡ fresh →
-    IsThrifty aim s.steps t.steps (len_of aim s) (len_of aim t) result
-thrifty_ok {aim} {s} {t} result k l e =
-    let none : fetched aim s.merger ≡ 0 = fresh_fetched aim s.merger e in
-    let all : fetched aim t.merger ≤ cells_read aim = all_read (heads_of k.goes.ready) in
-    record {
-      pushes = omega (arith, none, all, k.reads);
-      places = omega (arith, none, all, k.reads, k.goes.grows.len_fits l);
-    }
+-- at most one tick for each cell that was not read of the object, and for each push
+took_reads : {aim : Aim} {s t : MergeState} {count : ℕ} → Took aim s t count → len_of aim s ≤ slot_size aim.level →
+    (t.steps + fetched aim s.merger + len_of aim s ≤ s.steps + cells_read aim + (len_of aim t + 0)) × (t.steps + fetched aim s.merger + len_of aim s ≤ s.steps + cells_read aim + slot_size aim.level)
+took_reads k l = let a = all_read (heads_of k.goes.ready) in (omega (arith, a, k.reads), omega (arith, a, k.reads, k.goes.grows.len_fits l))
 
-thrifty_err : {aim : Aim} {s t : MergeState} {count : ℕ} (fault : StepFault) → Refused aim s t count fault → len_of aim s ≤ slot_size aim.level → s.merger ≡ fresh →
-    IsThrifty aim s.steps t.steps (len_of aim s) (len_of aim t) (Err fault)
-thrifty_err {aim} {s} {t} fault k l e =
-    let none : fetched aim s.merger ≡ 0 = fresh_fetched aim s.merger e in
-    record {
-      pushes = omega (arith, none, k.pushes);
-      places = omega (arith, none, k.reads l);
-    }
-
-thrifty_of : {aim : Aim} {s t : MergeState} {quota : ℕ} (result : Result Progress StepFault) → TakesQuota aim s t quota result → len_of aim s ≤ slot_size aim.level → s.merger ≡ fresh →
-    IsThrifty aim s.steps t.steps (len_of aim s) (len_of aim t) result
-thrifty_of (Ok More) k l e = thrifty_ok (Ok More) k.steps.0 l e
-thrifty_of (Ok Done) k l e = thrifty_ok (Ok Done) k.steps.2 l e
-thrifty_of (Err fault) k l e = thrifty_err fault k.steps.2 l e
+-- the same of a call
+reads_of : {aim : Aim} {s t : MergeState} {quota : ℕ} (result : Result Progress StepFault) → TakesQuota aim s t quota result → len_of aim s ≤ slot_size aim.level →
+    (t.steps + fetched aim s.merger + len_of aim s ≤ s.steps + cells_read aim + (len_of aim t + refused_push result)) × (t.steps + fetched aim s.merger + len_of aim s ≤ s.steps + cells_read aim + slot_size aim.level)
+reads_of (Ok More) k l = took_reads k.steps.0 l
+reads_of (Ok Done) k l = took_reads k.steps.2 l
+reads_of (Err fault) k l = (k.steps.2.pushes, k.steps.2.reads l)
 
 -- what steps that were taken leave
 on_took : {aim : Aim} {s t : MergeState} {quota : ℕ} {P : Type 0} → ((count : ℕ) → Took aim s t count → P) → (result : Result Progress StepFault) → TakesQuota aim s t quota result → OnOk result P
@@ -225,9 +197,7 @@ on_took f (Err fault) k = tt
 -- as many steps as source cells were consumed
 builds_of : {aim : Aim} {s t : MergeState} {count : ℕ} → Goes aim s t count → BuildsBy s.held t.held aim s.merger t.merger
 builds_of {aim} {s} {t} {count} g tells told =
-    let e : count ≡ consumed t.merger - consumed s.merger = let c = g.consumes in omega (arith, c) in
-    subst (λ (n : ℕ). build_of t.held aim t.merger ≡ steps key_cmp (part_of aim) (feed_cells s.held aim.own) (feed_cells s.held aim.incoming) (feed_keys s.held aim.sample) n (build_of s.held aim s.merger)) e
-    (g.builds tells told)
+    let e : consumed t.merger - consumed s.merger ≡ count = let c = g.consumes in omega (arith, c) in rw e (g.builds tells told)
 
 pub advances : {aim : Aim} {s t : MergeState} {quota : ℕ} (result : Result Progress StepFault) → IsReady s.held aim s.merger → len_of aim s ≤ slot_size aim.level → TakesQuota aim s t quota result →
     Advances aim s t quota result
@@ -250,7 +220,7 @@ advances {aim} {s} {t} result r l k =
       calm = calm_of result k;
       only = λ going fits. only_of result r k going fits;
       ticks = ticks_of result k;
-      begins = λ e. thrifty_of result k l e;
+      begins = λ e. let none = fresh_fetched aim s.merger e in let b = reads_of result k l in record { pushes = omega (arith, none, b.0); places = omega (arith, none, b.1) };
       spends = g.spends;
       turned = on_took (λ _ k. k.turned) result k;
       written = on_took (λ _ k. k.written) result k;

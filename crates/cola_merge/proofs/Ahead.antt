@@ -80,20 +80,14 @@ module _ (held : Held) (aim : Aim) (m : Merger) where
       ahead held aim m ≡ cells ++ ahead held aim (with_head m reader (head_at ((head_of m reader).at + 1)))
   step_by Own cells t r =
       let e = counted key_cmp (part_of aim) m.sample.at own incoming keys (keys_rise t) runs.Own cells r in
-      r.first
-      ∙ ap (λ (n : ℕ). cells ++ relinked n (unlinked key_cmp (part_of aim) (drop 1 own) incoming keys)) (omega (arith, e))
-      ∙ ap (λ (x : List LawCell). cells ++ relinked m.sample.at (unlinked key_cmp (part_of aim) x incoming keys)) (next_drop m.own.at (feed_cells held aim.own))
+      let z : count_looks cells + m.sample.at ≡ m.sample.at = omega (arith, e) in rw (r.first, z, ← next_drop m.own.at (feed_cells held aim.own))
   step_by Incoming cells t r =
       let e = counted key_cmp (part_of aim) m.sample.at own incoming keys (keys_rise t) runs.Incoming cells r in
-      r.first
-      ∙ ap (λ (n : ℕ). cells ++ relinked n (unlinked key_cmp (part_of aim) own (drop 1 incoming) keys)) (omega (arith, e))
-      ∙ ap (λ (x : List LawCell). cells ++ relinked m.sample.at (unlinked key_cmp (part_of aim) own x keys)) (next_drop m.incoming.at (feed_cells held aim.incoming))
+      let z : count_looks cells + m.sample.at ≡ m.sample.at = omega (arith, e) in rw (r.first, z, ← next_drop m.incoming.at (feed_cells held aim.incoming))
   step_by Sample cells t r =
       let e = counted key_cmp (part_of aim) m.sample.at own incoming keys (keys_rise t) runs.Sample cells r in
       let k = one_less keys r.there in
-      r.first
-      ∙ ap (λ (n : ℕ). cells ++ relinked n (unlinked key_cmp (part_of aim) own incoming (drop 1 keys))) (omega (arith, e, k))
-      ∙ ap (λ (x : List (List ℕ)). cells ++ relinked (m.sample.at + 1) (unlinked key_cmp (part_of aim) own incoming x)) (next_drop m.sample.at (feed_keys held aim.sample))
+      let z : count_looks cells + m.sample.at ≡ m.sample.at + 1 = omega (arith, e, k) in rw (r.first, z, ← next_drop m.sample.at (feed_keys held aim.sample))
 
   -- the step that the heads ask for emits the first of the cells ahead, or passes over a source cell
   pub ahead-next : (reader : Reader) (c : Option object.Cell) → HasHeads held aim m → AreFetched aim m → AreInOrder held aim → Take (as_head reader) (option_map as_cell c) ≡ next_action aim m →
@@ -107,9 +101,7 @@ module _ (held : Held) (aim : Aim) (m : Merger) where
       let a = past (feed_cells held aim.own) m.own.at (feed_len aim.own) (feed_length held aim.own) u.own in
       let b = past (feed_cells held aim.incoming) m.incoming.at (feed_len aim.incoming) (feed_length held aim.incoming) u.incoming in
       let c = past (feed_keys held aim.sample) m.sample.at (feed_len aim.sample) (keys_length held aim.sample) u.sample in
-      ap (λ (x : List LawCell). relinked m.sample.at (unlinked key_cmp (part_of aim) x incoming keys)) a
-      ∙ ap (λ (x : List LawCell). relinked m.sample.at (unlinked key_cmp (part_of aim) [] x keys)) b
-      ∙ ap (λ (x : List (List ℕ)). relinked m.sample.at (unlinked key_cmp (part_of aim) [] [] x)) c
+      rw (a, b, c)
     where
       past : {X : Type 0} (xs : List X) (n l : ℕ) → length xs ≡ l → l ≤ n → drop n xs ≡ []
       past xs n l e h = drop_all n xs (omega (arith, e, h))

@@ -15,9 +15,6 @@ one_if b = if b then 1 else 0
 
 -- ---- quotients
 
-pub div-next : (n k : ℕ) → 0 < k → n / k ≤ (n + 1) / k
-div-next n k h = let e : n / k * k ≤ n = div-mul-le_self n k in le-div (n / k) (n + 1) k h (omega (arith, e))
-
 pub div-next_at_most : (n k : ℕ) → 0 < k → (n + 1) / k ≤ n / k + 1
 div-next_at_most n k h =
     let e : n < k * (n / k + 1) = lt-mul-div-succ n h in
@@ -114,44 +111,34 @@ next_by g h x y s (inr (inr e)) = omega (arith, e)
 near : (a b : ℕ) → a ≤ b → b ≤ a + 1 → (b ≡ a) ⊎ (b ≡ a + 1)
 near a b h k = elim (eqb_tells b a) [ inl e ↦ inl e.1 | inr e ↦ inr (let d : b ≢ a = e.1 in omega (arith, h, k, d)) ]
 
-less_by : (b : Bool) (g h : ℕ) → h ≤ g → (if b then 0 else h) ≤ (if b then 0 else g)
-less_by true g h l = omega arith
-less_by false g h l = l
-
 -- how the groups that are left change
-groups-next : (size at end : ℕ) → 0 < size → at < end →
-    ((groups size (at + 1) end ≡ groups size at end) × ((at + 1) / size ≡ at / size))
-    ⊎ ((suc (groups size (at + 1) end) ≡ groups size at end) ⊎ ((groups size (at + 1) end ≡ 0) × (1 ≤ groups size at end)))
+groups-next : (size at end : ℕ) → 0 < size → at < end → (groups size (at + 1) end ≡ groups size at end → (at + 1) / size ≡ at / size)
+    × ((groups size (at + 1) end ≡ groups size at end) ⊎ (suc (groups size (at + 1) end) ≡ groups size at end) ⊎ (groups size (at + 1) end ≡ 0))
 groups-next size at end p h = elim (eqb_tells (at + 1) end) [
-  | inl e ↦ inr (inr (groups-none size (at + 1) end (let f : at + 1 ≡ end = e.1 in omega (arith, f)), groups-pos size at end h))
+  | inl e ↦
+      let g0 : groups size (at + 1) end ≡ 0 = groups-none size (at + 1) end (let f : at + 1 ≡ end = e.1 in omega (arith, f)) in
+      (λ f. let g = groups-pos size at end h in absurd (omega (arith, f, g, g0)), inr (inr g0))
   | inr e ↦
       let ne : at + 1 ≢ end = e.1 in
       let l : at + 1 < end = omega (arith, h, ne) in
       let g0 : groups size at end ≡ (end - 1) / size - at / size + 1 = groups-some size at end h in
       let g1 : groups size (at + 1) end ≡ (end - 1) / size - (at + 1) / size + 1 = groups-some size (at + 1) end l in
       let m : (at + 1) / size ≤ (end - 1) / size = div-mono (at + 1) (end - 1) size p (omega (arith, l)) in
-      elim (near (at / size) ((at + 1) / size) (div-next at size p) (div-next_at_most at size p)) [
-        | inl f ↦ inl (omega (arith, g0, g1, f), f)
-        | inr f ↦ inr (inl (omega (arith, g0, g1, f, m)))
+      elim (near (at / size) ((at + 1) / size) (div-mono at (at + 1) size p (omega arith)) (div-next_at_most at size p)) [
+        | inl f ↦ (λ _. f, inl (omega (arith, g0, g1, f)))
+        | inr f ↦ (λ k. absurd (omega (arith, g0, g1, f, m, k)), inr (inl (omega (arith, g0, g1, f, m))))
       ]
 ]
 
 -- a consumed cell leaves no more blocks
 pub run_left-next : (span : ℕ) (last : Option Block) (run : Run) (size end at : ℕ) → 0 < size → at < end → run_left span last run size end (at + 1) ≤ run_left span last run size end at
 run_left-next span last run size end at p h =
-    less_by (nat_lt (slot_size run.level) span)
-    (groups size at end - one_if (is_last last run.level run.slot (at / size))) (groups size (at + 1) end - one_if (is_last last run.level run.slot ((at + 1) / size)))
-    (by (groups-next size at end p h))
-  where
-    by : ((groups size (at + 1) end ≡ groups size at end) × ((at + 1) / size ≡ at / size))
-        ⊎ ((suc (groups size (at + 1) end) ≡ groups size at end) ⊎ ((groups size (at + 1) end ≡ 0) × (1 ≤ groups size at end))) →
-        groups size (at + 1) end - one_if (is_last last run.level run.slot ((at + 1) / size)) ≤ groups size at end - one_if (is_last last run.level run.slot (at / size))
-    by (inl e) = next_by (groups size at end) (groups size (at + 1) end) (is_last last run.level run.slot (at / size)) (is_last last run.level run.slot ((at + 1) / size))
-        (λ _. ap (λ (n : ℕ). is_last last run.level run.slot n) e.1) (inl e.0)
-    by (inr (inl e)) = next_by (groups size at end) (groups size (at + 1) end) (is_last last run.level run.slot (at / size)) (is_last last run.level run.slot ((at + 1) / size))
-        (λ f. absurd (omega (arith, e, f))) (inr (inl e))
-    by (inr (inr e)) = next_by (groups size at end) (groups size (at + 1) end) (is_last last run.level run.slot (at / size)) (is_last last run.level run.slot ((at + 1) / size))
-        (λ f. absurd (let a : groups size (at + 1) end ≡ 0 = e.0 in let b : 1 ≤ groups size at end = e.1 in omega (arith, a, b, f))) (inr (inr e.0))
+    let k = groups-next size at end p h in
+    let l = next_by (groups size at end) (groups size (at + 1) end) (is_last last run.level run.slot (at / size)) (is_last last run.level run.slot ((at + 1) / size))
+    (λ e. ap (λ (n : ℕ). is_last last run.level run.slot n) (k.0 e)) k.1 in
+    let m = small_by (nat_lt (slot_size run.level) span) 0 0
+    (groups size (at + 1) end - one_if (is_last last run.level run.slot ((at + 1) / size))) (groups size at end - one_if (is_last last run.level run.slot (at / size)))
+    (λ _. refl) (λ _. omega (arith, l)) in omega (arith, m)
 
 -- ---- another block that was read last
 

@@ -22,7 +22,7 @@ use Rattle.cola_merge.specs.Pulls.{AreInOrder, Gives, IsEndedBy, FitsGiven, give
 use Rattle.cola_merge.proofs.Sums.{spends_none, spends_then, cause_then}
 use Rattle.cola_merge.proofs.Reading.{head_in, with_passed, consumed-with, rises-with}
 use Rattle.cola_merge.proofs.Stepping.{held_fits, head_there, held_below, passed_reads, passed_left, passed_heads}
-use Rattle.cola_merge.proofs.Taking.{kept_at, looked_none, heads_there}
+use Rattle.cola_merge.proofs.Taking.{kept_at, heads_there}
 use Rattle.cola_merge.proofs.Ruling.{ended_is_used_up}
 use Rattle.cola_merge.proofs.Ahead.{ahead-next, ahead-none, ahead-same}
 
@@ -47,7 +47,7 @@ gave_then {aim} {s} {t} {u} {given} g k =
     }
 
 -- heads that were read
-gave_look : {aim : Aim} {s t : MergeState} → Looked aim s t → Gave aim s t []
+pub gave_look : {aim : Aim} {s t : MergeState} → Looked aim s t → Gave aim s t []
 gave_look {aim} {s} {t} f = record {
   cells_stay = f.looks.cells_stay;
   heads = f.looks.heads;
@@ -61,9 +61,6 @@ gave_look {aim} {s} {t} f = record {
   turned = f.turned;
   calm = f.calm;
 }
-
-pub gave_none : {aim : Aim} (s : MergeState) → HasHeads s.held aim s.merger → Gave aim s s []
-gave_none s h = gave_look (looked_none s h)
 
 given_small : (c : Option Cell) → length (option_to_list (option_map as_cell c)) ≤ 1
 given_small None = omega arith
@@ -106,10 +103,7 @@ module _ {aim : Aim} {s t : MergeState} (choice : Choice) (h : Chosen aim s t (S
     pub gave_chosen : (cell : Option Cell) → cell ≡ emitted_of choice.pass head.cell →
         Gave aim s (record { held = t.held; spent = t.spent; merger = with_head t.merger choice.head passed; steps = t.steps }) (option_to_list (option_map as_cell cell))
     gave_chosen cell is =
-        subst (λ (x : Option Cell). Gave aim s (record { held = t.held; spent = t.spent; merger = with_head t.merger choice.head passed; steps = t.steps }) (option_to_list (option_map as_cell x)))
-        (sym (is ∙ ap (λ (x : Head). emitted_of choice.pass x.cell) v))
-        (subst (λ (x : Merger). Gave aim s (record { held = t.held; spent = t.spent; merger = x; steps = t.steps }) (option_to_list (option_map as_cell (choice_cell t.merger choice))))
-        (sym (with_passed t.merger choice.head head passed v e)) (gave_then (gave_look h.looked) gave_consumed))
+        rw (is ∙ ap (λ (x : Head). emitted_of choice.pass x.cell) v, with_passed t.merger choice.head head passed v e) (gave_then (gave_look h.looked) gave_consumed)
 
     pub consumed_chosen : consumed s.merger < consumed (with_head t.merger choice.head passed)
     consumed_chosen =
@@ -118,12 +112,11 @@ module _ {aim : Aim} {s t : MergeState} (choice : Choice) (h : Chosen aim s t (S
 
   -- the head of the choice, as it was asked for
   pub suits_by : {head : Head} → head ≡ head_of t.merger choice.head → Suits choice.pass head.cell
-  suits_by e = subst (λ (x : Head). Suits choice.pass x.cell) (sym e) h.suits
+  suits_by e = rw e h.suits
 
   pub given_fits : {head : Head} (cell : Option Cell) → (HeadFits s.held.fixed.format head.cell → HeadFits s.held.fixed.format cell) → head ≡ head_of t.merger choice.head → HeadFits s.held.fixed.format cell
   given_fits cell fits e =
-      fits (subst (λ (x : Head). HeadFits s.held.fixed.format x.cell) (sym e)
-      (held_fits s.held (feed_of aim choice.head) (head_of t.merger choice.head).at (head_of t.merger choice.head).cell (head_in choice.head h.looked.looks.heads).cell))
+      fits (rw e (held_fits s.held (feed_of aim choice.head) (head_of t.merger choice.head).at (head_of t.merger choice.head).cell (head_in choice.head h.looked.looks.heads).cell))
 
 -- ---- the calls of a loop
 
@@ -145,8 +138,7 @@ none_given (Some c) e g = absurd (true≢false e)
 
 -- a head was not read
 pub stopped_at : {aim : Aim} {s t u : MergeState} (result : Result (Option Cell) ReadFault) (fault : ReadFault) → result ≡ Err fault → Gave aim s t [] → Unread aim t u fault → Drawn aim s u result
-stopped_at {aim} {s} {t} {u} result fault f g h =
-    subst (λ (x : Result (Option Cell) ReadFault). Drawn aim s u x) (sym f) (record { draws = record { between = t; gave = g; unread = h } })
+stopped_at {t = t} result fault f g h = rw f (record { draws = record { between = t; gave = g; unread = h } })
 
 -- fewer source cells are left
 pub fewer_left : {held : Held} {aim : Aim} (m : Merger) {n : Merger} → HasHeads held aim n → consumed m < consumed n →

@@ -10,7 +10,7 @@ use Rattle.cola_cell.specs.declared.fault.ReadFault.{ReadFault}
 use Rattle.cola_cell.specs.declared.fault.ReadFault.TheVariants as read
 use Rattle.cola_cell.specs.Fault.{step_of_read}
 use Rattle.cola_cell.specs.Places.{block_of}
-use Rattle.cola_cell.specs.Held.{Held, Spot, Told, Tells, as_cell, span}
+use Rattle.cola_cell.specs.Held.{Held, span}
 use Rattle.cola_cell.specs.Spent.{Buffer, By, IsBad, ReadAnswers, ReadCalm}
 use Rattle.cola_cell.specs.Reads.{Reads, ReadsIn}
 use Rattle.cola_cell.specs.State.{State}
@@ -22,24 +22,14 @@ use Rattle.cola_merge.specs.declared.merging.Merger.{Merger}
 use Rattle.cola_merge.specs.Feeds.{feed_of, feed_len, read_len, place_of, feed_spots, IsFeed, IsBadAt}
 use Rattle.cola_merge.specs.Heads.{head_at, head_of, with_head, consumed, IsHeldCell, IsHead, HasHeads, IsReady, missing_head, missing, held_head, fetched_of, fetched}
 use Rattle.cola_merge.specs.Blocks.{Lasts, run_left, feed_left, blocks_left}
-use Rattle.cola_merge.specs.States.{Spends, IsOther, IsBeside, ReadFailed, Fetch, state, StepCause, StepCalm}
+use Rattle.cola_merge.specs.States.{IsOther, IsBeside, ReadFailed, Fetches, Fetch, state, StepCause, StepCalm}
 use Rattle.cola_merge.specs.Advance.{cells_read}
 use Rattle.cola_merge.specs.Pulls.{Looks, Looked, Unread}
 use Rattle.cola_merge.proofs.Groups.{read_left, sampled_block}
 use Rattle.cola_merge.proofs.Kept.{left-beside}
+use Rattle.cola_merge.proofs.Sums.{spends_ticks}
 
 -- ---- one read
-
-read_spends : {old new : State} {buffer : Buffer} {level slot index : ℕ} {result : Result Cell ReadFault} {from to : ℕ} →
-    Reads old new buffer level slot index result → to ≡ from + 1 → Spends old.spent new.spent from to
-read_spends r e = record {
-  steps_stay = omega (arith, e);
-  ticked_is = omega (arith, e, r.one_tick);
-  turned_stays = r.turned_stays;
-  written_stays = omega (arith, r.written_is);
-  transfers = omega (arith, e, r.written_is, r.turned_rises);
-  faults_stay = r.faults_stay;
-}
 
 -- a feed that reads the cell at a cursor at this place
 pub record IsPlaced (held : Held) (reader : Reader) (f : Feed) (at : ℕ) (p : Reach) : Type 0 where
@@ -65,8 +55,7 @@ placed held reader (feed.Sampled run) at p e = subst (IsPlaced held reader (feed
   block = sampled_block at held.fixed.doublings;
   left = λ _. refl;
 })
-placed held reader (feed.One c) at p e = cc
-placed held reader feed.Nothing at p e = cc
+placed held reader _ at p e = cc
 
 calm_same : (T A : Type 0) (before now : ℕ) (fault : ReadFault) → ReadCalm {T = T} before now (Err fault) → ReadCalm {T = A} before now (Err fault)
 calm_same T A before now read.Device h = tt
@@ -87,29 +76,29 @@ module _ {old new : State} (reader : Reader) (f : Feed) (at : ℕ) (p : Reach) (
       (λ m. r.moves m ∙ ap Some same) in
       omega (arith, l, facts.left old.spent.lasts, facts.left new.spent.lasts)
 
+  -- a read, by its answer
+  fetch_by : {read : Result Cell ReadFault} (result : Result (Unit {0}) ReadFault) (cell : Option Cell) → Reads old new (By reader p.run.level) p.run.level p.run.slot p.from read →
+      IsHead old.held f (record { at = at; cell = cell }) → ReadCalm old.spent.faults new.spent.faults result →
+      Fetches old new reader f (head_at at) (record { at = at; cell = cell }) from to result → Fetch old new reader f (head_at at) (record { at = at; cell = cell }) from to result
+  fetch_by result cell r head calm fetches = record {
+    cells_stay = r.cells_stay;
+    at_is = refl;
+    head = head;
+    spends = spends_ticks 1 ticked r.one_tick r.turned_stays (omega (arith, r.written_is)) (omega (arith, r.written_is, r.turned_rises)) r.faults_stay;
+    written_is = r.written_is;
+    others_stay = λ buffer d. r.others_stay buffer (facts.beside buffer d);
+    calm = calm;
+    fetches = fetches;
+  }
+
   pub read_fetches : (room : Option Cell) (result : Result (Unit {0}) ReadFault) → IsHead old.held f (head_at at) →
       ReadsIn old new (By reader p.run.level) p.run.level p.run.slot p.from room result →
       Fetch old new reader f (head_at at) (record { at = at; cell = room }) from to result
-  read_fetches room (Ok done) i r = subst (λ (x : Option Cell). Fetch {A = Unit {0}} old new reader f (head_at at) (record { at = at; cell = x }) from to (Ok done)) (sym r.has) (record {
-    cells_stay = r.reads.cells_stay;
-    at_is = refl;
-    head = record { within = i.within; cell = (h, subst (λ (x : Spot). Tells x (Told (as_cell r.cell))) (sym facts.spot) r.reads.answer.told, r.reads.answer.fits) };
-    spends = read_spends r.reads ticked;
-    written_is = r.reads.written_is;
-    others_stay = λ buffer d. r.reads.others_stay buffer (facts.beside buffer d);
-    calm = r.reads.calm;
-    fetches = (λ _. refl, omega (arith, ticked), omega (arith, ticked, facts.counts None, facts.counts (Some r.cell)), reads_left r.cell r.reads);
-  })
-  read_fetches room (Err fault) i r = subst (λ (x : Option Cell). Fetch {A = Unit {0}} old new reader f (head_at at) (record { at = at; cell = x }) from to (Err fault)) (sym r.has) (record {
-    cells_stay = r.reads.cells_stay;
-    at_is = refl;
-    head = i;
-    spends = read_spends r.reads ticked;
-    written_is = r.reads.written_is;
-    others_stay = λ buffer d. r.reads.others_stay buffer (facts.beside buffer d);
-    calm = calm_same Cell (Unit {0}) old.spent.faults new.spent.faults fault r.reads.calm;
-    fetches = (cause fault r.reads.answer, refl, ticked, omega (arith, facts.counts None, facts.all, h));
-  })
+  read_fetches room (Ok done) i r = rw r.has (fetch_by (Ok done) (Some r.cell) r.reads
+      (record { within = i.within; cell = (h, rw facts.spot r.reads.answer.told, r.reads.answer.fits) }) r.reads.calm
+      (λ _. refl, omega (arith, ticked), omega (arith, ticked, facts.counts None, facts.counts (Some r.cell)), reads_left r.cell r.reads))
+  read_fetches room (Err fault) i r = rw r.has (fetch_by (Err fault) None r.reads i (calm_same Cell (Unit {0}) old.spent.faults new.spent.faults fault r.reads.calm)
+      (cause fault r.reads.answer, refl, ticked, omega (arith, facts.counts None, facts.all, h)))
     where
       cause : (fault : ReadFault) → ReadAnswers old.held old.spent.faults new.spent.faults p.run.level p.run.slot p.from (Err fault) → ReadFailed old.held old.spent.faults new.spent.faults f at fault
       cause read.Device a = a
@@ -153,8 +142,7 @@ feed_in Sample r = r.sample_feed
 
 pub head_of-with : (m : Merger) (reader : Reader) (head : Head) → head_of (with_head m reader head) reader ≡ head
 head_of-with m Own head = refl
-head_of-with m Incoming head = refl
-head_of-with m Sample head = refl
+head_of-with m _ head = refl
 
 -- the head that stands there already
 pub with_same : (m : Merger) (reader : Reader) (head : Head) → head ≡ head_of m reader → with_head m reader head ≡ m
@@ -168,21 +156,15 @@ with_passed m reader head passed v e = ap (with_head m reader) (e ∙ ap (λ (h 
 
 pub consumed-with : (m : Merger) (reader : Reader) (head : Head) (n : ℕ) → head.at ≡ (head_of m reader).at + n → consumed (with_head m reader head) ≡ consumed m + n
 consumed-with m Own head n e = omega (arith, e)
-consumed-with m Incoming head n e = omega (arith, e)
-consumed-with m Sample head n e = omega (arith, e)
+consumed-with m _ head n e = omega (arith, e)
 
 -- what holds of the head that comes in, and of each that stands, holds of each then
 with_each : (P : Reader → Head → Type 0) (m : Merger) (reader : Reader) (head : Head) → P reader head → ((other : Reader) → P other (head_of m other)) → (other : Reader) →
     P other (head_of (with_head m reader head) other)
 with_each P m Own head h k Own = h
-with_each P m Own head h k Incoming = k Incoming
-with_each P m Own head h k Sample = k Sample
-with_each P m Incoming head h k Own = k Own
 with_each P m Incoming head h k Incoming = h
-with_each P m Incoming head h k Sample = k Sample
-with_each P m Sample head h k Own = k Own
-with_each P m Sample head h k Incoming = k Incoming
 with_each P m Sample head h k Sample = h
+with_each P m _ head h k other = k other
 
 pub rises-with : (m : Merger) (reader : Reader) (head : Head) → (head_of m reader).at ≤ head.at → (other : Reader) → (head_of m other).at ≤ (head_of (with_head m reader head) other).at
 rises-with m reader head h = with_each (λ other x. (head_of m other).at ≤ x.at) m reader head h (λ other. omega arith)
@@ -194,13 +176,11 @@ beside-with aim Sample buffer b = b.sample
 
 pub missing-with : (m : Merger) (reader : Reader) (head : Head) → missing (with_head m reader head) + missing_head (head_of m reader).cell ≡ missing m + missing_head head.cell
 missing-with m Own head = omega arith
-missing-with m Incoming head = omega arith
-missing-with m Sample head = omega arith
+missing-with m _ head = omega arith
 
 pub fetched-with : (aim : Aim) (m : Merger) (reader : Reader) (head : Head) → fetched aim (with_head m reader head) + fetched_of (feed_of aim reader) (head_of m reader) ≡ fetched aim m + fetched_of (feed_of aim reader) head
 fetched-with aim m Own head = omega arith
-fetched-with aim m Incoming head = omega arith
-fetched-with aim m Sample head = omega arith
+fetched-with aim m _ head = omega arith
 
 -- a head is held or missing
 pub one_of : (c : Option Cell) → missing_head c + held_head c ≡ 1
@@ -208,11 +188,7 @@ one_of None = refl
 one_of (Some c) = refl
 
 pub three_of : (m : Merger) → missing m + (held_head m.own.cell + held_head m.incoming.cell + held_head m.sample.cell) ≡ 3
-three_of m =
-    let a = one_of m.own.cell in
-    let b = one_of m.incoming.cell in
-    let c = one_of m.sample.cell in
-    omega (arith, a, b, c)
+three_of m = omega (arith, one_of m.own.cell, one_of m.incoming.cell, one_of m.sample.cell)
 
 -- blocks left of the three feeds, from those of one
 pub left-with : (aim : Aim) (m : Merger) (d : ℕ) (before now : Lasts) (o n : ℕ) (reader : Reader) (head : Head) →
@@ -235,8 +211,7 @@ fetched_within held (feed.Run run) at None h k = omega (arith, h)
 fetched_within held (feed.Run run) at (Some c) h k = omega (arith, k.0)
 fetched_within held (feed.Sampled run) at None h k = omega (arith, h)
 fetched_within held (feed.Sampled run) at (Some c) h k = omega (arith, k.0)
-fetched_within held (feed.One b) at c h k = omega arith
-fetched_within held feed.Nothing at c h k = omega arith
+fetched_within held _ at c h k = omega arith
 
 pub head_within : {held : Held} {f : Feed} {head : Head} → IsHead held f head → fetched_of f head ≤ read_len f
 head_within {held} {f} {head} h = fetched_within held f head.at head.cell h.within h.cell
@@ -270,17 +245,12 @@ all_within Own r h = omega (arith, h, head_within r.incoming, head_within r.samp
 all_within Incoming r h = omega (arith, h, head_within r.own, head_within r.sample)
 all_within Sample r h = omega (arith, h, head_within r.own, head_within r.incoming)
 
-bad_with : (held : Held) (aim : Aim) (m : Merger) (reader : Reader) (head : Head) (number : ℕ) → head.at ≡ (head_of m reader).at → IsBadAt held (feed_of aim reader) (head_of m reader).at number →
-    IsBadAt held (feed_of aim reader) (head_of (with_head m reader head) reader).at number
-bad_with held aim m reader head number e h =
-    subst (λ (n : ℕ). IsBadAt held (feed_of aim reader) n number) (sym (ap (λ (x : Head). x.at) (head_of-with m reader head) ∙ e)) h
-
 fetch_cause : (aim : Aim) (old new : State) (m : Merger) (to : ℕ) (reader : Reader) (head : Head) (fault : ReadFault) → new.held ≡ old.held → head.at ≡ (head_of m reader).at →
     ReadFailed old.held old.spent.faults new.spent.faults (feed_of aim reader) (head_of m reader).at fault →
     StepCause aim old.spent.faults (state new (with_head m reader head) to) (step_of_read fault)
 fetch_cause aim old new m to reader head read.Device s e c = c
 fetch_cause aim old new m to reader head (read.BadCell number) s e c =
-    record { reader = reader; bad = bad_with new.held aim m reader head number e (subst (λ (h : Held). IsBadAt h (feed_of aim reader) (head_of m reader).at number) (sym s) c) }
+    record { reader = reader; bad = rw (head_of-with m reader head, e, s) c }
 
 fetch_calm : (A : Type 0) (before now : ℕ) (fault : ReadFault) → ReadCalm {T = A} before now (Err fault) → StepCalm before now (step_of_read fault)
 fetch_calm A before now read.Device c = tt

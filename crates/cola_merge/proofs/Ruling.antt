@@ -1,5 +1,5 @@
 -- What the rules take of the heads that are held, and that it is the step of the laws.
-use Rattle.std.proofs.Common.{◌≡◌, ℕ, ◌+◌, ◌*◌, ◌/◌, ◌^◌, ◌<◌, ◌≤◌, Bool, true, false, cond, List, length, Option, Some, None, IsSome, refl, ap, sym, subst, ◌∙◌, arith}
+use Rattle.std.proofs.Common.{◌≡◌, ℕ, ◌+◌, ◌*◌, ◌/◌, ◌^◌, ◌<◌, ◌≤◌, Bool, true, false, cond, List, length, Option, Some, None, IsSome, refl, ap, sym, ◌∙◌, arith}
 use Rattle.std.specs.declared.cmp.Ordering.{Ordering}
 use Rattle.std.specs.declared.cmp.Ordering.TheVariants.{Less, Equal, Greater}
 use Rattle.std.specs.Ordering.{is_gt, match_ordering}
@@ -50,13 +50,9 @@ module _ {K V : Type 0} where
   by_order P Equal x y z h k l = k
   by_order P Greater x y z h k l = l
 
-  skipped_own : (part : Part) (own : Option (laws.Cell K V)) → skips_own part own ≡ true → IsSome own
-  skipped_own part None e = absurd (true≢false (sym e))
-  skipped_own part (Some c) e = refl
-
-  skipped_incoming : (incoming : Option (laws.Cell K V)) → skips_incoming incoming ≡ true → IsSome incoming
-  skipped_incoming None e = absurd (true≢false (sym e))
-  skipped_incoming (Some c) e = refl
+  skipped : (skips : Option (laws.Cell K V) → Bool) → skips None ≡ false → (c : Option (laws.Cell K V)) → skips c ≡ true → IsSome c
+  skipped skips n None e = absurd (true≢false (sym e ∙ n))
+  skipped skips n (Some c) e = refl
 
 module _ {K V : Type 0} (cmp : K → K → Ordering) (part : Part) (link : ℕ) where
   item_taken : (own incoming : Option (laws.Cell K V)) (key : Option K) (head : runs.Head) (c : laws.Cell K V) → ((e : Option (laws.Cell K V)) → IsTaken own incoming key (Take head e)) →
@@ -76,24 +72,26 @@ module _ {K V : Type 0} (cmp : K → K → Ordering) (part : Part) (link : ℕ) 
 
   pub rule_taken : (own incoming : Option (laws.Cell K V)) (key : Option K) → IsTaken own incoming key (rule cmp part link own incoming key)
   rule_taken own incoming key =
-      by_cond (IsTaken own incoming key) (skips_own part own) (Take runs.Own None) (cond (skips_incoming incoming) (Take runs.Incoming None) (least cmp part link own incoming key)) (skipped_own part own)
-      (by_cond (IsTaken own incoming key) (skips_incoming incoming) (Take runs.Incoming None) (least cmp part link own incoming key) (skipped_incoming incoming) (least_taken own incoming key))
+      by_cond (IsTaken own incoming key) (skips_own part own) (Take runs.Own None) (cond (skips_incoming incoming) (Take runs.Incoming None) (least cmp part link own incoming key)) (skipped (λ c. skips_own part c) refl own)
+      (by_cond (IsTaken own incoming key) (skips_incoming incoming) (Take runs.Incoming None) (least cmp part link own incoming key) (skipped (λ c. skips_incoming c) refl incoming) (least_taken own incoming key))
 
 -- ---- no head is left
 
-not_below : (at n : ℕ) → (at < n → ⊥) → n ≤ at
+pub not_below : (at n : ℕ) → (at < n → ⊥) → n ≤ at
 not_below at n h = omega (arith, h)
 
 none_left : {X : Type 0} (read : Cell → X) (f : Feed) (at : ℕ) (c : Option Cell) → option_map read c ≡ None → (at < feed_len f → IsSome c) → feed_len f ≤ at
 none_left read f at None e h = not_below at (feed_len f) (λ l. true≢false (sym (h l)))
 none_left read f at (Some c) e h = absurd (none-some (read c) (sym e))
 
+-- the head that the action takes is there
+pub taken_by : (aim : Aim) (m : Merger) (a : Action (List ℕ) Stamped) → a ≡ next_action aim m → IsTaken (option_map as_cell m.own.cell) (option_map as_cell m.incoming.cell) (option_map key_of m.sample.cell) a
+taken_by aim m a e = rw e (rule_taken key_cmp (part_of aim) (8 * m.sample.at) (option_map as_cell m.own.cell) (option_map as_cell m.incoming.cell) (option_map key_of m.sample.cell))
+
 -- where the rules end, each feed is used up
 pub ended_is_used_up : (aim : Aim) (m : Merger) → AreFetched aim m → Ended ≡ next_action aim m → IsUsedUp aim m
 ended_is_used_up aim m f e =
-    let t : IsTaken (option_map as_cell m.own.cell) (option_map as_cell m.incoming.cell) (option_map key_of m.sample.cell) Ended =
-    subst (IsTaken (option_map as_cell m.own.cell) (option_map as_cell m.incoming.cell) (option_map key_of m.sample.cell)) (sym e)
-    (rule_taken key_cmp (part_of aim) (8 * m.sample.at) (option_map as_cell m.own.cell) (option_map as_cell m.incoming.cell) (option_map key_of m.sample.cell)) in
+    let t = taken_by aim m Ended e in
     record {
       own = none_left as_cell aim.own m.own.at m.own.cell t.0 f.own;
       incoming = none_left as_cell aim.incoming m.incoming.at m.incoming.cell t.1 f.incoming;
@@ -159,8 +157,7 @@ run_small fixed run few s = let a = s.level_in in let b = s.within in let c : 2 
 pub feed_small : (fixed : Fixed) (f : Feed) → fixed.levels ≤ 23 → IsFeed fixed f → feed_len f ≤ 2 ^ 25
 feed_small fixed (feed.Run run) few s = run_small fixed run few s
 feed_small fixed (feed.Sampled run) few s = let a = run_small fixed run few s in let d : run.len / 8 ≤ run.len = div-le_self run.len 8 in omega (arith, a, d)
-feed_small fixed (feed.One c) few s = omega arith
-feed_small fixed feed.Nothing few s = omega arith
+feed_small fixed _ few s = omega arith
 
 pub small_cursor : (fixed : Fixed) (f : Feed) (at : ℕ) → fixed.levels ≤ 23 → IsFeed fixed f → at ≤ feed_len f → 8 * at < 2 ^ 32
 small_cursor fixed f at l h e = let a = feed_small fixed f l h in omega (arith, a, e)

@@ -30,63 +30,51 @@ use Rattle.cola_merge.specs.States.{KeepsBlocks, count_of, Emitted, PushFailed, 
 use Rattle.cola_merge.proofs.Groups.{run_left-next}
 use Rattle.cola_merge.proofs.Kept.{ready-stays, left-stays}
 use Rattle.cola_merge.proofs.Reading.{heads_of, ready_by, heads_with, head_in, feed_in, consumed-with, rises-with, missing-with, fetched-with, left-with, head_within}
-use Rattle.cola_merge.proofs.Ruling.{IsTaken, rule_taken, step_of_heads, small_cursor}
+use Rattle.cola_merge.proofs.Ruling.{taken_by, step_of_heads, small_cursor}
 use Rattle.std.proofs.Math.Pow.{pow_pos}
 
 -- ---- the head that is taken
 
+-- what holds of each cell holds of a head that is there
+if_some : (c : Option Cell) (P : Option Cell → Type 0) → IsSome c → ((d : Cell) → P (Some d)) → P c
+if_some None P e h = absurd (true≢false (sym e))
+if_some (Some c) P e h = h c
+
 some_of : {X : Type 0} (read : Cell → X) (c : Option Cell) → IsSome (option_map read c) → IsSome c
 some_of read None e = absurd (true≢false (sym e))
 some_of read (Some c) e = refl
-
-pub taken_by : (aim : Aim) (m : Merger) (a : Action (List ℕ) Stamped) → a ≡ next_action aim m → IsTaken (option_map as_cell m.own.cell) (option_map as_cell m.incoming.cell) (option_map key_of m.sample.cell) a
-taken_by aim m a e = subst (IsTaken (option_map as_cell m.own.cell) (option_map as_cell m.incoming.cell) (option_map key_of m.sample.cell)) (sym e)
-    (rule_taken key_cmp (part_of aim) (8 * m.sample.at) (option_map as_cell m.own.cell) (option_map as_cell m.incoming.cell) (option_map key_of m.sample.cell))
 
 pub head_there : (aim : Aim) (m : Merger) (reader : Reader) (c : Option Cell) → Take (as_head reader) (option_map as_cell c) ≡ next_action aim m → IsSome (head_of m reader).cell
 head_there aim m Own c e = some_of as_cell m.own.cell (taken_by aim m (Take runs.Own (option_map as_cell c)) e)
 head_there aim m Incoming c e = some_of as_cell m.incoming.cell (taken_by aim m (Take runs.Incoming (option_map as_cell c)) e)
 head_there aim m Sample c e = some_of key_of m.sample.cell (taken_by aim m (Take runs.Sample (option_map as_cell c)) e).0
 
--- a consumed key of the sample emits its lookahead cell
-one_there : (c : Option Cell) → IsSome (option_map as_cell c) → count_of c ≡ 1
-one_there None e = absurd (true≢false (sym e))
-one_there (Some c) e = refl
-
 count_small : (c : Option Cell) → count_of c ≤ 1
 count_small None = omega arith
 count_small (Some c) = omega arith
 
+-- a consumed key of the sample emits its lookahead cell
 sampled_one : (aim : Aim) (m : Merger) (reader : Reader) (c : Option Cell) → Take (as_head reader) (option_map as_cell c) ≡ next_action aim m →
     (with_head m reader (head_at ((head_of m reader).at + 1))).sample.at ≤ m.sample.at + count_of c
 sampled_one aim m Own c e = omega arith
 sampled_one aim m Incoming c e = omega arith
-sampled_one aim m Sample c e = let k : count_of c ≡ 1 = one_there c (taken_by aim m (Take runs.Sample (option_map as_cell c)) e).1 in omega (arith, k)
+sampled_one aim m Sample c e =
+    let k : count_of c ≡ 1 = if_some c (λ x. count_of x ≡ 1) (some_of as_cell c (taken_by aim m (Take runs.Sample (option_map as_cell c)) e).1) (λ _. refl) in omega (arith, k)
 
 -- ---- a consumed head
 
-below_by : (held : Held) (f : Feed) (at : ℕ) (c : Option Cell) → IsHeldCell held f at c → IsSome c → at < feed_len f
-below_by held f at None h e = absurd (true≢false (sym e))
-below_by held f at (Some c) h e = h.0
-
 pub held_below : {held : Held} {f : Feed} {head : Head} → IsHead held f head → IsSome head.cell → head.at < feed_len f
-held_below {held} {f} {head} h e = below_by held f head.at head.cell h.cell e
-
-held_some : (c : Option Cell) → IsSome c → held_head c ≡ 1
-held_some None e = absurd (true≢false (sym e))
-held_some (Some c) e = refl
+held_below {held} {f} {head} h e = (if_some head.cell (λ x. IsHeldCell held f head.at x → head.at < feed_len f) e (λ _ k. k.0)) h.cell
 
 fetched_some : (f : Feed) (head : Head) → IsSome head.cell → fetched_of f (head_at (head.at + 1)) ≡ fetched_of f head
-fetched_some (feed.Run run) head e = let k : held_head head.cell ≡ 1 = held_some head.cell e in omega (arith, k)
-fetched_some (feed.Sampled run) head e = let k : held_head head.cell ≡ 1 = held_some head.cell e in omega (arith, k)
 fetched_some (feed.One c) head e = refl
 fetched_some feed.Nothing head e = refl
+fetched_some _ head e = let k : held_head head.cell ≡ 1 = if_some head.cell (λ x. held_head x ≡ 1) e (λ _. refl) in omega (arith, k)
 
 pub feed_left-next : (d : ℕ) (lasts : Lasts) (reader : Reader) (f : Feed) (at : ℕ) → at < feed_len f → feed_left d lasts reader f (at + 1) ≤ feed_left d lasts reader f at
 feed_left-next d lasts reader (feed.Run run) at h = run_left-next (8 * 2 ^ d) _ run (8 * 2 ^ d) run.len at (let p : 0 < 2 ^ d = pow_pos d in omega (arith, p)) h
 feed_left-next d lasts reader (feed.Sampled run) at h = run_left-next (8 * 2 ^ d) _ run (2 ^ d) (run.len / 8) at (pow_pos d) h
-feed_left-next d lasts reader (feed.One c) at h = omega arith
-feed_left-next d lasts reader feed.Nothing at h = omega arith
+feed_left-next d lasts reader _ at h = omega arith
 
 left-kept : (d : ℕ) (before now : Lasts) (aim : Aim) (m n : Merger) {held : Held} → IsReady held aim n → ((buffer : Buffer) → KeepsBlocks aim.level aim.slot buffer before now) →
     blocks_left d now aim m ≡ blocks_left d before aim m
@@ -176,18 +164,10 @@ module _ {aim : Aim} (s : MergeState) (new : State) (to : ℕ) (reader : Reader)
     calm = e.calm;
   }
 
-  -- the same, where the merger is named otherwise
-  pub took_step_as : (m : Merger) → m ≡ with_head s.merger reader (head_at ((head_of s.merger reader).at + 1)) → Took aim s (state new m to) 1
-  took_step_as m k = subst (λ (x : Merger). Took aim s (state new x to) 1) (sym k) took_step
-
 -- ---- a step that was refused
 
 pub all_read : {held : Held} {aim : Aim} {m : Merger} → HasHeads held aim m → fetched aim m ≤ read_len aim.own + read_len aim.incoming + read_len aim.sample
 all_read r = omega (arith, head_within r.own, head_within r.incoming, head_within r.sample)
-
-emits_some : (aim : Aim) (m : Merger) (head : runs.Head) (c : Option Cell) → IsSome c → Take head (option_map as_cell c) ≡ next_action aim m → Emits (next_action aim m)
-emits_some aim m head None h e = absurd (true≢false (sym h))
-emits_some aim m head (Some c) h e = subst Emits e tt
 
 module _ {aim : Aim} (s : MergeState) (new : State) (to : ℕ) (reader : Reader) (c : Option Cell) (fault : PushFault) (r : IsReady s.held aim s.merger) (f : AreFetched aim s.merger)
     (asked : Take (as_head reader) (option_map as_cell c) ≡ next_action aim s.merger) (e : Unpushed (object_of s) new aim.level c s.steps to fault) where
@@ -213,7 +193,7 @@ module _ {aim : Aim} (s : MergeState) (new : State) (to : ℕ) (reader : Reader)
   by_fault (push.Overfull number) h = (
     omega (arith, h.3),
     λ l. omega (arith, h.3, l),
-    record { level_is = h.1; full = e.len_is ∙ h.0; fetched = f; emits = emits_some aim s.merger (as_head reader) c e.there asked },
+    record { level_is = h.1; full = e.len_is ∙ h.0; fetched = f; emits = rw (← asked) (if_some c (λ x. Emits (Take (as_head reader) (option_map as_cell x))) e.there (λ _. tt)) },
     h.2,
     omega (arith, h.3, e.len_is),
   )

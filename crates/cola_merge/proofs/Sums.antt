@@ -1,5 +1,5 @@
 -- How steps add up.
-use Rattle.std.proofs.Common.{◌≡◌, ◌≢◌, inl, inr, ℕ, zero, suc, ◌+◌, ◌*◌, ◌/◌, ◌%◌, ◌^◌, ◌<◌, ◌≤◌, ◌==◌, List, ap, sym, subst, ◌∙◌, arith}
+use Rattle.std.proofs.Common.{◌≡◌, ◌≢◌, inl, inr, ℕ, zero, suc, ◌+◌, ◌%◌, ◌<◌, ◌≤◌, ◌==◌, List, ap, sym, subst, ◌∙◌, arith}
 use Rattle.std.specs.declared.cmp.Ordering.{Ordering}
 use Rattle.std.proofs.lemmas.Bool.Decides.{eqb_tells}
 use Rattle.cola_outside.specs.Faults.{Rose}
@@ -8,15 +8,15 @@ use Rattle.cola_runs.specs.Cells as laws
 use Rattle.cola_runs.specs.Steps.{Build, step, steps}
 use Rattle.cola_cell.specs.declared.sink.Shadow.{Shadow}
 use Rattle.cola_cell.specs.declared.fault.StepFault.{StepFault}
-use Rattle.cola_cell.specs.declared.fault.StepFault.TheVariants.{Device, BadCell, Overfull}
-use Rattle.cola_cell.specs.Held.{Fixed, LawCell, IsTelling, span}
-use Rattle.cola_cell.specs.Spent.{Spent}
+use Rattle.cola_cell.specs.declared.fault.StepFault.TheVariants.{Device}
+use Rattle.cola_cell.specs.Held.{LawCell, IsTelling, span}
+use Rattle.cola_cell.specs.Spent.{Spent, Ticks}
 use Rattle.cola_cell.proofs.RunLemmas.{telling_stays}
 use Rattle.cola_merge.specs.declared.aims.Aim.{Aim}
 use Rattle.cola_cell.specs.Order.{key_cmp}
 use Rattle.cola_merge.specs.Feeds.{part_of, feed_cells, feed_keys}
 use Rattle.cola_merge.specs.Heads.{IsReady, AreFeedsTold, build_of}
-use Rattle.cola_merge.specs.States.{Spends, MergeState, len_of, blocks_in_all, Goes, Took, Refused, StepCause, StepCalm}
+use Rattle.cola_merge.specs.States.{Spends, MergeState, len_of, Goes, Took, Refused, StepCause, StepCalm}
 use Rattle.cola_merge.proofs.Kept.{grows_then, feed_cells-stay, feeds_told-stay}
 
 -- ---- steps of the laws
@@ -30,15 +30,20 @@ module _ {K V : Type 0} (cmp : K → K → Ordering) (part : Part) (own incoming
 
 -- ---- what accesses cost
 
-pub spends_none : (spent : Spent) (n : ℕ) → Spends spent spent n n
-spends_none spent n = record {
-  steps_stay = omega arith;
-  ticked_is = omega arith;
-  turned_stays = omega arith;
-  written_stays = omega arith;
-  transfers = omega arith;
-  faults_stay = omega arith;
+-- so many ticks are made, each of which turns to or writes one block at most
+pub spends_ticks : {old new : Spent} {from to : ℕ} (n : ℕ) → to ≡ from + n → Ticks old.ticked new.ticked n → old.turned ≤ new.turned → old.written ≤ new.written →
+    new.turned + new.written ≤ old.turned + old.written + n → old.faults ≤ new.faults → Spends old new from to
+spends_ticks n e ticked turned written rises faults = record {
+  steps_stay = omega (arith, e);
+  ticked_is = omega (arith, e, ticked);
+  turned_stays = turned;
+  written_stays = written;
+  transfers = omega (arith, e, rises);
+  faults_stay = faults;
 }
+
+pub spends_none : (spent : Spent) (n : ℕ) → Spends spent spent n n
+spends_none spent n = spends_ticks 0 (omega arith) (omega arith) (omega arith) (omega arith) (omega arith) (omega arith)
 
 pub spends_then : {a b c : Spent} {i j k : ℕ} → Spends a b i j → Spends b c j k → Spends a c i k
 spends_then {a} {b} {c} {i} {j} {k} g h = record {
@@ -86,30 +91,19 @@ grew_then span x y z t u h k l same first second = elim (eqb_tells z y) [
   | inr e ↦ second (let f : z ≢ y = e.1 in omega (arith, k, f))
 ]
 
--- an object on which blocks stay as large
-took_by : {aim : Aim} {s t u : MergeState} {m n : ℕ} → Goes aim s t m → Took aim t u n →
-    (blocks_in_all s.held.fixed.doublings aim u ≤ blocks_in_all s.held.fixed.doublings aim t)
-    × (u.spent.written + len_of aim t / span s.held ≤ t.spent.written + len_of aim u / span s.held)
-    × (len_of aim t < len_of aim u → (u.held.shadows aim.level).saved ≡ (len_of aim u % span s.held == 0))
-took_by {aim} {s} {t} {u} g h =
-    subst (λ (f : Fixed). (blocks_in_all f.doublings aim u ≤ blocks_in_all f.doublings aim t)
-    × (u.spent.written + len_of aim t / (8 * 2 ^ f.doublings) ≤ t.spent.written + len_of aim u / (8 * 2 ^ f.doublings))
-    × (len_of aim t < len_of aim u → (u.held.shadows aim.level).saved ≡ (len_of aim u % (8 * 2 ^ f.doublings) == 0)))
-    g.grows.around.fixed_is (h.turned, h.written, h.saved.grew)
-
 pub took_then : {aim : Aim} {s t u : MergeState} {m n : ℕ} → IsReady s.held aim s.merger → Took aim s t m → Took aim t u n → Took aim s u (m + n)
 took_then {aim} {s} {t} {u} {m} {n} r g h =
-    let b = took_by g.goes h in
+    let e = g.goes.grows.around.fixed_is in
     record {
       goes = goes_then r g.goes h.goes;
       ticks = omega (arith, g.ticks, h.ticks);
       reads = omega (arith, g.reads, h.reads);
-      turned = omega (arith, g.turned, b.0);
-      written = omega (arith, g.written, b.1);
+      turned = let k = rw e at h.turned in omega (arith, g.turned, k);
+      written = let k = rw e at h.written in omega (arith, g.written, k);
       saved = record {
         still = λ f. both_still g.goes.grows.len_rises h.goes.grows.len_rises f;
         grew = λ l. grew_then (span s.held) (len_of aim s) (len_of aim t) (len_of aim u) (t.held.shadows aim.level) (u.held.shadows aim.level)
-            g.goes.grows.len_rises h.goes.grows.len_rises l h.saved.still g.saved.grew b.2;
+            g.goes.grows.len_rises h.goes.grows.len_rises l h.saved.still g.saved.grew (rw e at h.saved.grew);
       };
       calm = h.calm ∙ g.calm;
     }
@@ -121,25 +115,20 @@ took_then {aim} {s} {t} {u} {m} {n} r g h =
 
 pub cause_then : (aim : Aim) (before between : ℕ) (t : MergeState) (fault : StepFault) → between ≡ before → StepCause aim between t fault → StepCause aim before t fault
 cause_then aim before between t Device e c = subst (λ (x : ℕ). Rose x t.spent.faults) e c
-cause_then aim before between t (BadCell number) e c = c
-cause_then aim before between t (Overfull level) e c = c
+cause_then aim before between t _ e c = c
 
 pub calm_then : (before between now : ℕ) (fault : StepFault) → between ≡ before → StepCalm between now fault → StepCalm before now fault
 calm_then before between now Device e c = tt
-calm_then before between now (BadCell number) e c = c ∙ e
-calm_then before between now (Overfull level) e c = c ∙ e
+calm_then before between now _ e c = c ∙ e
 
 pub refused_then : {aim : Aim} {s t u : MergeState} {m n : ℕ} {fault : StepFault} → IsReady s.held aim s.merger → Took aim s t m → Refused aim t u n fault → Refused aim s u (m + n) fault
 refused_then {aim} {s} {t} {u} {m} {n} {fault} r g h =
-    let e : t.held.fixed ≡ s.held.fixed = g.goes.grows.around.fixed_is in
-    let written : u.spent.written + len_of aim t / span s.held ≤ t.spent.written + (len_of aim u / span s.held + 1) =
-    subst (λ (f : Fixed). u.spent.written + len_of aim t / (8 * 2 ^ f.doublings) ≤ t.spent.written + (len_of aim u / (8 * 2 ^ f.doublings) + 1)) e h.written in
     record {
       goes = goes_then r g.goes h.goes;
       ticks = omega (arith, g.ticks, h.ticks);
       reads = λ l. let a = h.reads (g.goes.grows.len_fits l) in omega (arith, g.reads, a);
       pushes = omega (arith, g.reads, h.pushes);
-      written = omega (arith, g.written, written);
+      written = let k = rw g.goes.grows.around.fixed_is at h.written in omega (arith, g.written, k);
       cause = cause_then aim s.spent.faults t.spent.faults u fault g.calm h.cause;
       calm = calm_then s.spent.faults t.spent.faults u.spent.faults fault g.calm h.calm;
     }

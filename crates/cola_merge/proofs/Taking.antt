@@ -1,5 +1,5 @@
 -- The heads of a step: three fetches, and what the rules ask for then.
-use Rattle.std.proofs.Common.{◌≡◌, ℕ, ◌+◌, Bool, true, false, ◌-◌, ◌<◌, ◌≤◌, Option, None, Some, Result, Ok, Err, refl, ap, sym, subst, ◌∙◌, arith}
+use Rattle.std.proofs.Common.{◌≡◌, ℕ, ◌+◌, Bool, false, ◌-◌, ◌<◌, ◌≤◌, Option, Result, Ok, Err, refl, ap, sym, subst, ◌∙◌, arith}
 use Rattle.cola_cell.specs.declared.cell.Reader.{Reader}
 use Rattle.cola_cell.specs.declared.cell.Reader.TheVariants.{Own, Incoming, Sample}
 use Rattle.cola_cell.specs.declared.fault.ReadFault.{ReadFault}
@@ -12,18 +12,15 @@ use Rattle.cola_merge.specs.declared.aims.Aim.{Aim}
 use Rattle.cola_merge.specs.declared.aims.Progress.{Progress}
 use Rattle.cola_merge.specs.declared.aims.Progress.TheVariants.{Done, More}
 use Rattle.cola_merge.specs.Fetched.{Head}
-use Rattle.cola_merge.specs.declared.rules.Choice.{Choice}
 use Rattle.cola_merge.specs.declared.merging.Merger.{Merger}
 use Rattle.cola_merge.specs.Feeds.{feed_of}
 use Rattle.cola_merge.specs.Heads.{head_of, with_head, consumed, HasHeads, IsReady, IsUsedUp, build_of}
-use Rattle.cola_merge.specs.Rules.{as_action, next_action}
 use Rattle.cola_merge.specs.Blocks.{is_last}
-use Rattle.cola_merge.specs.States.{Fetch, MergeState, blocks_in_all, state, Goes, Took, StepCause, Refused, Taken, TakesQuota}
-use Rattle.cola_merge.specs.Pulls.{Looks, Looked, Unread, Chosen, Next}
+use Rattle.cola_merge.specs.States.{Fetch, MergeState, state, Goes, Took, StepCause, Refused, Taken, TakesQuota}
+use Rattle.cola_merge.specs.Pulls.{Looks, Looked, Unread}
 use Rattle.cola_merge.proofs.Kept.{grows_none}
 use Rattle.cola_merge.proofs.Sums.{took_then, spends_none, spends_then, cause_then, calm_then, refused_then}
 use Rattle.cola_merge.proofs.Reading.{heads_of, ready_by, fetch_looked, fetch_unread}
-use Rattle.cola_merge.proofs.Ruling.{ended_is_used_up}
 
 -- ---- reads of heads add up
 
@@ -52,9 +49,7 @@ looked_then {aim} {s} {t} {u} g h = record {
   looks = looks_then g.looks h.looks;
   ticks = omega (arith, g.ticks, h.ticks);
   reads = omega (arith, g.reads, h.reads);
-  turned = (
-      let k = subst (λ (x : Held). blocks_in_all x.fixed.doublings aim u ≤ blocks_in_all x.fixed.doublings aim t) g.looks.cells_stay h.turned in omega (arith, g.turned, k)
-      );
+  turned = let k = rw g.looks.cells_stay at h.turned in omega (arith, g.turned, k);
   calm = h.calm ∙ g.calm;
 }
 
@@ -68,10 +63,6 @@ unread_then {aim} {s} {t} {u} {fault} g h = record {
   calm = calm_then s.spent.faults t.spent.faults u.spent.faults (step_of_read fault) g.calm h.calm;
 }
 
--- a refusal, by the error that is handed on
-pub unread_by : {aim : Aim} {s t : MergeState} (result : Result (Option Choice) ReadFault) (fault : ReadFault) → result ≡ Err fault → Unread aim s t fault → Next aim s t result
-unread_by {aim} {s} {t} result fault e h = subst (λ (x : Result (Option Choice) ReadFault). Next aim s t x) (sym e) h
-
 -- ---- one head after others
 
 pub heads_there : {aim : Aim} {s t : MergeState} → Looked aim s t → HasHeads t.held aim t.merger
@@ -84,15 +75,6 @@ and_read {from = from} {to = to} m g reader head a f = looked_then g (fetch_look
 pub and_unread : {A : Type 0} {aim : Aim} {s : MergeState} {old new : State} {from to : ℕ} (m : Merger) → Looked aim s (state old m from) → (reader : Reader) (head : Head) (fault : ReadFault) →
     Fetch {A = A} old new reader (feed_of aim reader) (head_of m reader) head from to (Err fault) → Unread aim s (state new (with_head m reader head) to) fault
 and_unread {from = from} {to = to} m g reader head fault f = unread_then g (fetch_unread m from to reader head fault (heads_there g) f)
-
--- the choice by another name
-pub chosen_is : {aim : Aim} {s t : MergeState} (choice : Option Choice) (c : Choice) → choice ≡ Some c → Chosen aim s t choice → Chosen aim s t (Some c)
-chosen_is {aim} {s} {t} choice c e h = subst (λ (x : Option Choice). Chosen aim s t x) e h
-
--- no choice is left where no source cell is
-pub none_chosen : {aim : Aim} {s t : MergeState} (choice : Option Choice) → choice ≡ None → Chosen aim s t choice → IsUsedUp aim t.merger
-none_chosen {aim} {s} {t} choice e h =
-    ended_is_used_up aim t.merger h.fetched (subst (λ (x : Option Choice). as_action t.merger x ≡ next_action aim t.merger) e h.asked)
 
 -- ---- heads that were read, as a part of a step
 
@@ -152,36 +134,30 @@ module _ {aim : Aim} {s t : MergeState} (r : IsReady s.held aim s.merger) where
 pub took_none : {aim : Aim} (s : MergeState) → IsReady s.held aim s.merger → Took aim s s 0
 took_none s r = took_look r (looked_none s (heads_of r))
 
--- a refusal, by the error that is handed on
-pub refused_by : {aim : Aim} {s t : MergeState} (result : Result Bool StepFault) (fault : StepFault) → result ≡ Err fault → Refused aim s t 0 fault → Taken aim s t result
-refused_by {aim} {s} {t} result fault e h = subst (λ (x : Result Bool StepFault). Taken aim s t x) (sym e) h
-
--- whether a step was taken, as it was tested
-pub was_taken : {aim : Aim} {s t : MergeState} (b : Bool) → b ≡ true → Taken aim s t (Ok b) → Took aim s t 1
-was_taken {aim} {s} {t} b e h = subst (λ (x : Bool). Taken aim s t (Ok x)) e h
-
 -- ---- steps of a quota
 
 -- none was taken behind so many
 pub done_ran : {aim : Aim} {s t u : MergeState} {count quota : ℕ} (b : Bool) → b ≡ false → IsReady s.held aim s.merger → Took aim s t count → Taken aim t u (Ok b) → count < quota → TakesQuota aim s u quota (Ok Done)
 done_ran {aim} {s} {t} {u} {count} b e r k h l =
-    let none : Taken aim t u (Ok false) = subst (λ (x : Bool). Taken aim t u (Ok x)) e h in
-    record { steps = (count, omega (arith, l), subst (λ (n : ℕ). Took aim s u n) (let z : count + 0 ≡ count = omega arith in z) (took_then r k none.0), none.1) }
+    let none : Taken aim t u (Ok false) = rw e at h in
+    record { steps = (count, omega (arith, l), let z : count ≡ count + 0 = omega arith in rw z (took_then r k none.0), none.1) }
 
 pub refused_ran : {aim : Aim} {s t u : MergeState} {count quota : ℕ} (result : Result Progress StepFault) (fault : StepFault) → result ≡ Err fault → IsReady s.held aim s.merger → Took aim s t count → Refused aim t u 0 fault →
     count < quota → TakesQuota aim s u quota result
 refused_ran {aim} {s} {t} {u} {count} {quota} result fault e r k h l =
-    subst (λ (x : Result Progress StepFault). TakesQuota aim s u quota x) (sym e)
-    (record { steps = (count, l, subst (λ (n : ℕ). Refused aim s u n fault) (let z : count + 0 ≡ count = omega arith in z) (refused_then r k h)) })
+    rw e (record { steps = (count, l, let z : count ≡ count + 0 = omega arith in rw z (refused_then r k h)) })
 
 -- ---- steps of a quota, of which so many are left
 
 -- so many more of those that were left
-pub took_more : {aim : Aim} {s t u : MergeState} (quota left count rest : ℕ) → IsReady s.held aim s.merger → Took aim s t (quota - left) → Took aim t u count → left ≤ quota → rest + count ≡ left → Took aim s u (quota - rest)
-took_more {aim} {s} {t} {u} quota left count rest r k h l e =
-    subst (λ (n : ℕ). Took aim s u n) (let z : (quota - left) + count ≡ quota - rest = omega (arith, l, e) in z) (took_then r k h)
+pub took_more : {aim : Aim} {s t u : MergeState} (quota left count : ℕ) → IsReady s.held aim s.merger → Took aim s t (quota - left) → Took aim t u count → left ≤ quota → count ≤ left → Took aim s u (quota - (left - count))
+took_more {aim} {s} {t} {u} quota left count r k h l few = let z : quota - (left - count) ≡ (quota - left) + count = omega (arith, l, few) in rw z (took_then r k h)
+
+-- no source cell is left
+pub ran_out : {aim : Aim} {s u : MergeState} (quota rest : ℕ) → IsUsedUp aim u.merger → Took aim s u (quota - rest) → TakesQuota aim s u quota (Ok Done)
+ran_out quota rest h k = record { steps = (quota - rest, omega arith, k, h) }
 
 -- all of them were taken
 pub all_ran : {aim : Aim} {s u : MergeState} (quota rest : ℕ) (progress : Progress) → (progress ≡ More → IsUsedUp aim u.merger → ⊥) → (progress ≡ Done → IsUsedUp aim u.merger) → rest ≡ 0 → Took aim s u (quota - rest) → TakesQuota aim s u quota (Ok progress)
-all_ran {aim} {s} {u} quota rest More f h e k = record { steps = (subst (λ (n : ℕ). Took aim s u n) (let z : quota - rest ≡ quota = omega (arith, e) in z) k, f refl) }
-all_ran {aim} {s} {u} quota rest Done f h e k = record { steps = (quota, omega arith, subst (λ (n : ℕ). Took aim s u n) (let z : quota - rest ≡ quota = omega (arith, e) in z) k, h refl) }
+all_ran quota rest More f h e k = record { steps = (let z : quota ≡ quota - rest = omega (arith, e) in rw z k, f refl) }
+all_ran quota rest Done f h e k = ran_out quota rest (h refl) k

@@ -1,5 +1,5 @@
 -- Feeds, runs and merges that begin.
-use Rattle.std.proofs.Common.{◌≡◌, ◌≢◌, ◌⊎◌, inl, inr, ℕ, suc, ◌+◌, ◌*◌, ◌/◌, ◌<◌, ◌≤◌, List, [], ◌∷◌, Some, refl, ap, sym, ◌∙◌, arith}
+use Rattle.std.proofs.Common.{◌≡◌, ◌≢◌, ◌⊎◌, inl, inr, ℕ, suc, ◌+◌, ◌*◌, ◌/◌, ◌≤◌, List, [], ◌∷◌, Some, refl, ap, sym, ◌∙◌, arith}
 use Rattle.std.specs.Option.{option_map}
 use Rattle.std.specs.List.{slice_get}
 use Rattle.std.proofs.lemmas.Option.{slice_get-map, none-some, same_Some}
@@ -19,6 +19,7 @@ use Rattle.cola_merge.specs.Feeds.{feed_keys}
 use Rattle.cola_merge.specs.Heads.{fresh, build_of}
 use Rattle.cola_merge.specs.States.{Grows}
 use Rattle.cola_cell.proofs.CellLists.{get-cells, past-cells}
+use Rattle.cola_merge.proofs.Kept.{third}
 
 -- ---- the sample
 
@@ -29,23 +30,22 @@ same_lists (x ∷ xs) [] h = absurd (none-some x (sym (h 0)))
 same_lists {X} (x ∷ xs) (y ∷ ys) h = ap (λ (z : X). z ∷ xs) (same_Some x y (h 0)) ∙ ap (λ (zs : List X). y ∷ zs) (same_lists xs ys (λ i. h (suc i)))
 
 -- a cell of the sample, by where it stands
-sampled_cell : (spots : ℕ → Spot) (len i : ℕ) → (len / 8 ≤ i) ⊎ (i < len / 8) → slice_get (cells (λ k. spots (8 * k + 7)) 0 (len / 8)) i ≡ slice_get (cells spots 0 len) (8 * i + 7)
-sampled_cell spots len i (inl h) = past-cells (λ k. spots (8 * k + 7)) 0 (len / 8) i h ∙ sym (past-cells spots 0 len (8 * i + 7) (omega (arith, h)))
-sampled_cell spots len i (inr h) =
-    get-cells (λ k. spots (8 * k + 7)) 0 (len / 8) i h
-    ∙ ap (λ (n : ℕ). Some (cell_at (spots n))) (let e : 8 * (0 + i) + 7 ≡ 0 + (8 * i + 7) = omega arith in e)
-    ∙ sym (get-cells spots 0 len (8 * i + 7) (omega (arith, h)))
-
-or_below : (n i : ℕ) → (n ≤ i) ⊎ (i < n)
-or_below n i = elim (leb_tells n i) [ inl e ↦ inl e.1 | inr e ↦ inr (let h = e.1 in omega (arith, h)) ]
+sampled_cell : (spots : ℕ → Spot) (len i : ℕ) → slice_get (cells (λ k. spots (8 * k + 7)) 0 (len / 8)) i ≡ slice_get (cells spots 0 len) (8 * i + 7)
+sampled_cell spots len i = elim (leb_tells (len / 8) i) [
+  | inl e ↦ let h = e.1 in past-cells (λ k. spots (8 * k + 7)) 0 (len / 8) i h ∙ sym (past-cells spots 0 len (8 * i + 7) (omega (arith, h)))
+  | inr e ↦
+      let h = e.1 in
+      get-cells (λ k. spots (8 * k + 7)) 0 (len / 8) i h
+      ∙ ap (λ (n : ℕ). Some (cell_at (spots n))) (let e : 8 * (0 + i) + 7 ≡ 0 + (8 * i + 7) = omega arith in e)
+      ∙ sym (get-cells spots 0 len (8 * i + 7) (omega (arith, h)))
+]
 
 pub sampled_feed : (held : Held) (run : Run) → feed_keys held (feed.Sampled run) ≡ sample (run_cells held run)
 sampled_feed held run =
-    let spots : ℕ → Spot = held.spots run.level run.slot in
     let sampled : List LawCell = cells (λ k. held.spots run.level run.slot (8 * k + 7)) 0 (run.len / 8) in
     same_lists (feed_keys held (feed.Sampled run)) (sample (run_cells held run))
     (λ i. slice_get-map laws.key_of sampled i
-    ∙ ap (option_map laws.key_of) (sampled_cell (held.spots run.level run.slot) run.len i (or_below (run.len / 8) i))
+    ∙ ap (option_map laws.key_of) (sampled_cell (held.spots run.level run.slot) run.len i)
     ∙ sym (sample_at i (run_cells held run)))
 
 -- ---- a merge that begins
@@ -56,12 +56,6 @@ fresh_begun held aim e =
 
 -- ---- a shadow that grows
 
-kept_place : (old new : Held) (level : ℕ) (run : Run) → Grows old new level → (run.level ≢ level) ⊎ (run.slot ≢ (old.shadows level).slot) ⊎ (run.len ≤ (old.shadows level).len) →
-    (i : ℕ) → i < run.len → new.spots run.level run.slot i ≡ old.spots run.level run.slot i
-kept_place old new level run g (inl d) i l = g.others_stay run.level run.slot i (inl d)
-kept_place old new level run g (inr (inl d)) i l = g.others_stay run.level run.slot i (inr (inl d))
-kept_place old new level run g (inr (inr d)) i l = g.others_stay run.level run.slot i (inr (inr (omega (arith, d, l))))
-
 pub grown_keeps : (old new : Held) (level : ℕ) (run : Run) (cs : List LawCell) → Grows old new level → (run.level ≢ level) ⊎ (run.slot ≢ (old.shadows level).slot) ⊎ (run.len ≤ (old.shadows level).len) →
     IsRun old run cs → IsRun new run cs
-grown_keeps old new level run cs g d h = run_stays old new run cs (kept_place old new level run g d) h
+grown_keeps old new level run cs g d h = run_stays old new run cs (λ i l. g.others_stay run.level run.slot i (third (λ k. omega (arith, k, l)) d)) h

@@ -1,5 +1,5 @@
 -- What a merge does that runs over windows.
-use Rattle.std.specs.Prelude.{◌≡◌, ℕ, zero, suc, ◌+◌, ◌*◌, ◌≤◌, ◌<◌, ◌^◌, Bool, true, List, drop, Option, None, Some, IfSome}
+use Rattle.std.specs.Prelude.{◌≡◌, ℕ, zero, suc, ◌+◌, ◌*◌, ◌≤◌, ◌<◌, ◌^◌, Bool, true, if◌then◌else◌, List, drop, Option, None, Some, IfSome}
 use Rattle.cola_merge.specs.declared.aims.Feed.{Feed}
 use Rattle.cola_merge.specs.declared.aims.Feed.TheVariants as feed
 use Rattle.cola_cell.specs.declared.windows.Reach.{Reach}
@@ -46,28 +46,23 @@ lasts_of views = record { own = views.own_last; incoming = views.incoming_last; 
 abbrev pub rules_of : Aim → Rules
 rules_of aim = record { only_young = takes_young aim.part; marks_young = aim.young; drops_tombstones = aim.bottom }
 
--- cursors that a pass may move, and a cell that fits the format, where one is given
+-- the one cell that comes in, where the feed is the one that the head holds
+abbrev pub one_coming : Merger → Bool → Option Cell
+one_coming m has_one = if has_one then m.incoming.cell else None
+
+-- cursors that a pass may move, and a cell that fits the format, where one comes in
 pub record CanPass (m : Merger) (job : Share) (format : Format) : Type 0 where
   pub own : m.own.at ≤ 2 ^ 25
   pub incoming : m.incoming.at ≤ 2 ^ 25
   pub sample : m.sample.at ≤ 2 ^ 25
   pub quota : job.quota ≤ 65536
-  pub one : IfSome job.one (CellFits format)
+  pub one : IfSome (one_coming m job.has_one) (CellFits format)
 
--- a count of what is read of the object: none where the one cell is given
-abbrev pub unless_given : Option Cell → ℕ → ℕ
-unless_given None n = n
-unless_given (Some c) n = 0
+-- how many heads are held
+abbrev pub held_heads : Merger → ℕ
+held_heads m = held_head m.own.cell + held_head m.incoming.cell + held_head m.sample.cell
 
--- how many cells of what was taken the object read: all but the one that was given
-abbrev pub cells_read : Share → Taken → ℕ
-cells_read job taken = taken.own + unless_given job.one taken.incoming + taken.sample
-
--- how many heads of cells of the object are held
-abbrev pub heads_read : Share → Merger → ℕ
-heads_read job m = held_head m.own.cell + unless_given job.one (held_head m.incoming.cell) + held_head m.sample.cell
-
--- a merge ran over windows: it took so many cells of each, its heads went on, and each cell of the object that it tested and did not hold, and each that it put, is a tick
+-- a merge ran over windows: it took so many cells of each, its heads went on, and each cell that it tested and did not hold, and each that it put, is a tick
 pub record PassesOver (before after : Merger) (job : Share) (format : Format) (views : Views) (room : List ℕ) (passed : Passed) : Type 0 where
   pub taken : Taken
   pub merged : windows.Merged format job.rules (8 * before.sample.at) (bytes_of views) (lasts_of views) room taken
@@ -79,9 +74,9 @@ pub record PassesOver (before after : Merger) (job : Share) (format : Format) (v
   pub stops : MergeStops format (bytes_of views) (lasts_of views) room taken job.quota
   pub goes_on : CanStep format (bytes_of views) (lasts_of views) room job.quota → 0 < windows.consumed taken
   pub cells_are : passed.cells ≡ taken.pushed
-  pub ticks_are : passed.ticks + heads_read job before ≡ cells_read job taken + taken.pushed + heads_read job after
+  pub ticks_are : passed.ticks + held_heads before ≡ windows.consumed taken + taken.pushed + held_heads after
 
--- the window of what comes in: that of the one cell that was given, or that of the object
+-- the window of what comes in: that of the one cell, or that of the object
 abbrev pub IsIncoming : Option Cell → Format → Views → List ℕ → Bool → Type 0
 IsIncoming (Some c) format views bytes last = IsSpelling format c bytes × (last ≡ true)
 IsIncoming None format views bytes last = (bytes ≡ views.incoming) × (last ≡ views.incoming_last)
@@ -97,14 +92,14 @@ with_incoming bytes last views = record {
   sample_last = views.sample_last;
 }
 
--- a merge ran over the object's windows, of which the one cell that was given has its own
+-- a merge ran over the object's windows, of which the one cell that comes in has its own
 pub record Passes (before after : Merger) (job : Share) (format : Format) (views : Views) (room : List ℕ) (passed : Passed) : Type 0 where
   pub bytes : List ℕ
   pub last : Bool
-  pub incoming : IsIncoming job.one format views bytes last
+  pub incoming : IsIncoming (one_coming before job.has_one) format views bytes last
   pub over : PassesOver before after job format (with_incoming bytes last views) room passed
 
--- the one cell of a feed of one, where it was not consumed
+-- the cell of a feed of one, where it was not consumed
 abbrev pub one_at : Feed → ℕ → Option Cell
 one_at (feed.Run run) at = None
 one_at (feed.Sampled run) at = None

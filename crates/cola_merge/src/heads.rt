@@ -1,5 +1,5 @@
 //! Cursors and the heads that are held.
-ghost use Rattle.std.specs.Prelude.{◌≡◌, ◌+◌, ◌<◌, ◌≤◌, ◌^◌, None, option_copied};
+ghost use Rattle.std.specs.Prelude.{◌≡◌, ◌+◌, ◌<◌, ◌≤◌, ◌^◌, None, is_some, if◌then◌else◌, option_copied};
 ghost use Rattle.cola_cell.specs.declared.format.Format.{Format};
 ghost use Rattle.cola_cell.specs.Format.{CellFits};
 ghost use Rattle.cola_cell.specs.Held.{Held};
@@ -56,6 +56,22 @@ impl Head {
         ensures { option_copied result ≡ self.now.cell }
     {
         self.room.cell()
+    }
+
+    /// The cell that is held, where it is asked for.
+    #[inline(always)]
+    pub(crate) fn cell_if(&self, is_asked: bool) -> Option<&Packed>
+        ensures { option_copied result ≡ (if is_asked then self.now.cell else None) }
+    {
+        if is_asked { self.room.cell() } else { None }
+    }
+
+    /// Whether a cell is held.
+    #[inline(always)]
+    pub(crate) fn has_cell(&self) -> bool
+        ensures { result ≡ is_some self.now.cell }
+    {
+        self.room.has_cell()
     }
 
     /// Holds this cell, where it stands. It is a call of its own, so that no fetch makes room for a cell that it seldom packs.

@@ -289,6 +289,9 @@ impl Merger {
         ensures ran { RunLeaves W.CellSource work.old work.new aim.now
             self.old self.new steps.old steps.new quota result }
     {
+        if self.is_done(aim) {
+            return Ok(Progress::Done);
+        }
         let ends = aim.ends();
         let mut left = quota;
         let mut misses: u32 = 0;
@@ -298,6 +301,9 @@ impl Merger {
             let rest = left - taken;
             if rest == 0 {
                 return Ok(self.progress(aim));
+            }
+            if self.is_done(aim) {
+                return Ok(Progress::Done);
             }
             if !self.take(work, aim, ends, steps)? {
                 return Ok(Progress::Done);

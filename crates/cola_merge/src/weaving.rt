@@ -1,28 +1,28 @@
 //! A merge over windows.
-ghost use Rattle.std.specs.Prelude.{◌≡◌, ◌+◌, ◌*◌, ◌^◌, ◌≤◌, ◌<◌, IfSome, length};
+ghost use Rattle.std.specs.Prelude.{◌≡◌, ◌+◌, ◌*◌, ◌^◌, ◌≤◌, ◌<◌, IfSome, is_some, true, false, length};
 ghost use Rattle.cola_merge.specs.Feeds.{IsFeed, IsApart, feed_len};
 ghost use Rattle.cola_merge.specs.Heads.{IsReady};
 ghost use Rattle.cola_merge.specs.States.{Took, state};
 ghost use Rattle.cola_cell.specs.Format.{width};
 ghost use Rattle.cola_cell.specs.Windows.{AreSpelled, views_of};
-ghost use Rattle.cola_merge.specs.Weaving.{CanPass, Passes, PassesOver, rules_of, one_at, unless_given, IsReachOf, IsIncomingReachOf, IsSampleReachOf};
+ghost use Rattle.cola_merge.specs.Weaving.{CanPass, Passes, PassesOver, rules_of, one_at, IsReachOf, IsIncomingReachOf, IsSampleReachOf};
 
 use crate::aims::{Aim, Feed};
 use crate::heads::Head;
 use crate::merging::Merger;
-use cola_cell::{Cell, CellSink, Format, Passed, Reach, Run, Window, WindowMerge, encode_in};
+use cola_cell::{CellSink, Format, Passed, Reach, Run, Window, WindowMerge};
 use cola_clock::Part;
 use cola_outside::Steps;
 use cola_window::{Rules, merge_windows};
 use std::sync::ledger::Ledger;
 
-/// What a pass of a merge is told: its rules, how many steps it takes at most, and the one cell that comes in, where the
-/// feed that comes in is one cell and has it still.
+/// What a pass of a merge is told: its rules, how many steps it takes at most, and whether the feed that comes in is the one
+/// cell that its head holds.
 #[derive(Clone, Copy, Debug)]
 pub struct Share {
     pub(crate) rules: Rules,
     pub(crate) quota: u32,
-    pub(crate) one: Option<Cell>,
+    pub(crate) has_one: bool,
 }
 
 impl WindowMerge for Merger {
@@ -41,11 +41,11 @@ impl WindowMerge for Merger {
         sample: Window,
         room: &mut [u8],
     ) -> Passed {
-        match &job.one {
+        match self.incoming.cell_if(job.has_one) {
             Some(cell) => {
                 let mut room_of_one = [0u8; 128];
                 let bytes = &mut room_of_one[..format.width()];
-                encode_in(format, cell, bytes);
+                cell.write(format, bytes);
                 let is_last = true;
                 let one = Window { bytes, is_last };
                 self.pass_over(job, format, own, one, sample, room)
@@ -91,27 +91,23 @@ fn incoming_reach_of(feed: &Feed, at: u32) -> Option<Reach>
     }
 }
 
-/// The one cell of a feed of one, where it was not consumed.
-#[inline]
-fn one_of(feed: &Feed, at: u32) -> Option<Cell>
-    ensures { result ≡ one_at feed.now at }
+/// Whether a feed is one cell, which was not consumed.
+#[inline(always)]
+fn is_one(feed: &Feed, at: u32) -> bool
+    ensures { result ≡ is_some (one_at feed.now at) }
 {
     match feed {
-        Feed::One(cell) => { if at == 0 { Some(*cell) } else { None } }
-        _ => None,
+        Feed::One(_) => at == 0,
+        _ => false,
     }
 }
 
-/// How many of so many cells that came in the object read: none where the one cell is given.
+/// Whether one cell comes in that the head does not hold yet.
 #[inline(always)]
-fn reads_of(one: &Option<Cell>, count: u32) -> u32
-    ensures value { result ≡ unless_given one.now count }
-    ensures few { result ≤ count }
+fn waits(has_one: bool, head: &Head) -> bool
+    ensures { result ≡ false → has_one ≡ true → is_some head.now.cell ≡ true }
 {
-    match one {
-        Some(_) => 0,
-        None => count,
-    }
+    has_one && !head.has_cell()
 }
 
 /// Where the next cell of a sample stands, if the object has it.
@@ -147,7 +143,7 @@ fn rules(aim: &Aim) -> Rules
 }
 
 impl Merger {
-    /// A pass over the windows of its sources, of which the one that comes in may be that of one cell: no tick is made for it.
+    /// A pass over the windows of its sources.
     #[inline(always)]
     fn pass_over(
         &mut self,
@@ -177,16 +173,15 @@ impl Merger {
         let samples = self
             .sample
             .go(format, sample.bytes, taken.sample, 8 * width);
-        let reads = owns + samples + reads_of(&job.one, incomings);
         Passed {
             steps: taken.own + taken.incoming + taken.sample,
             cells: taken.pushed,
-            ticks: reads + taken.pushed,
+            ticks: owns + incomings + samples + taken.pushed,
         }
     }
 
     /// Takes as many steps as the object lets it take over the bytes of its sources, at most so many; none where it is
-    /// not to be asked.
+    /// not to be asked, and none where one cell comes in that no head holds yet.
     #[inline]
     pub(crate) fn weave<W: CellSink, L: Ledger>(
         &mut self,
@@ -204,7 +199,8 @@ impl Merger {
         ensures took { Took aim.now (state (W.CellSource.state work.old) self.old steps.old)
             (state (W.CellSource.state work.new) self.new steps.new) result }
     {
-        if !is_asked {
+        let has_one = is_one(&aim.incoming, self.incoming.at());
+        if !is_asked || waits(has_one, &self.incoming) {
             return 0;
         }
         let Some(own) = reach_of(&aim.own, self.own.at()) else {
@@ -219,7 +215,7 @@ impl Merger {
         let share = Share {
             rules: rules(aim),
             quota: quota.min(65536),
-            one: one_of(&aim.incoming, self.incoming.at()),
+            has_one,
         };
         work.weave(aim.level, own, incoming, sample, self, &share, steps)
     }

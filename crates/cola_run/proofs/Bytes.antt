@@ -1,9 +1,8 @@
 -- Cells among bytes of which some were written.
 use Rattle.std.proofs.lemmas.List.{drop-drop}
 use Rattle.std.proofs.Common.{◌≡◌, ◌≢◌, ℕ, ◌+◌, ◌*◌, ◌/◌, ◌%◌, ◌<◌, ◌≤◌, List, length, inl, inr, sym, ap, ◌∙◌, arith, drop, ◌-◌}
-use Rattle.std.proofs.Math.Nat.{mul_comm, mul_left_comm}
+use Rattle.std.proofs.Math.Nat.{mul-add, mul-le-mul_left, mul_comm, mul_left_comm}
 use Rattle.cola_cell.specs.declared.format.Format.{Format}
-use Rattle.cola_cell.specs.declared.format.Format.TheVariants.{One, Two}
 use Rattle.cola_cell.specs.Format.{width}
 use Rattle.cola_device.specs.Bytes.{part, splice}
 use Rattle.cola_device.proofs.BytesLemmas.{drop-splice_end, part-splice_inside, part-splice_below, part-splice_above, part-part}
@@ -12,34 +11,28 @@ use Rattle.cola_run.proofs.Numbers.{split, block-apart}
 
 -- a cell before those that were written stays
 pub cell-below : (f : Format) (bytes new : List ℕ) (m c : ℕ) → width f * m ≤ length bytes → c + 1 ≤ m → cell_bytes f (splice bytes (width f * m) new) c ≡ cell_bytes f bytes c
-cell-below One bytes new m c holds below = part-splice_below bytes (64 * m) new (64 * c) 64 holds (omega (arith, below))
-cell-below Two bytes new m c holds below = part-splice_below bytes (128 * m) new (128 * c) 128 holds (omega (arith, below))
+cell-below f bytes new m c holds below = part-splice_below bytes (width f * m) new (width f * c) (width f) holds (omega (arith, mul-le-mul_left (width f) below))
 
 -- and so does one behind them
 pub cell-above : (f : Format) (bytes new : List ℕ) (m n c : ℕ) → width f * m ≤ length bytes → length new ≡ width f * n → m + n ≤ c → cell_bytes f (splice bytes (width f * m) new) c ≡ cell_bytes f bytes c
-cell-above One bytes new m n c holds many above = part-splice_above bytes (64 * m) new (64 * c) 64 holds (omega (arith, many, above))
-cell-above Two bytes new m n c holds many above = part-splice_above bytes (128 * m) new (128 * c) 128 holds (omega (arith, many, above))
+cell-above f bytes new m n c holds many above = part-splice_above bytes (width f * m) new (width f * c) (width f) holds (omega (arith, many, mul-le-mul_left (width f) above))
 
 -- one of them is new
 pub cell-inside : (f : Format) (bytes new : List ℕ) (m n p : ℕ) → width f * m ≤ length bytes → length new ≡ width f * n → p < n → cell_bytes f (splice bytes (width f * m) new) (m + p) ≡ cell_bytes f new p
-cell-inside One bytes new m n p holds many within =
-    ap (λ (at : ℕ). part (splice bytes (64 * m) new) at 64) (let e : 64 * (m + p) ≡ 64 * m + 64 * p = omega arith in e) ∙ part-splice_inside bytes (64 * m) new (64 * p) 64 holds (omega (arith, many, within))
-cell-inside Two bytes new m n p holds many within =
-    ap (λ (at : ℕ). part (splice bytes (128 * m) new) at 128) (let e : 128 * (m + p) ≡ 128 * m + 128 * p = omega arith in e) ∙ part-splice_inside bytes (128 * m) new (128 * p) 128 holds (omega (arith, many, within))
+cell-inside f bytes new m n p holds many within =
+    ap (λ (at : ℕ). part (splice bytes (width f * m) new) at (width f)) (mul-add (width f) m p) ∙ part-splice_inside bytes (width f * m) new (width f * p) (width f) holds (omega (arith, many, mul-le-mul_left (width f) within))
 
 -- bytes of as many cells have room for fewer
 pub room-of : (f : Format) (m n : ℕ) → m ≤ n → width f * m ≤ width f * n
-room-of One m n h = omega (arith, h)
-room-of Two m n h = omega (arith, h)
+room-of f m n h = mul-le-mul_left (width f) h
 
 pub room-sum : (f : Format) (m n : ℕ) → width f * m + width f * n ≡ width f * (m + n)
-room-sum One m n = omega arith
-room-sum Two m n = omega arith
+room-sum f m n = sym (mul-add (width f) m n)
 
 -- a cell of a part
 pub cell-part : (f : Format) (bytes : List ℕ) (m n p : ℕ) → p < n → cell_bytes f (part bytes (width f * m) (width f * n)) p ≡ cell_bytes f bytes (m + p)
-cell-part One bytes m n p within = part-part bytes (64 * m) (64 * n) (64 * p) 64 (omega (arith, within)) ∙ ap (λ (at : ℕ). part bytes at 64) (let e : 64 * m + 64 * p ≡ 64 * (m + p) = omega arith in e)
-cell-part Two bytes m n p within = part-part bytes (128 * m) (128 * n) (128 * p) 128 (omega (arith, within)) ∙ ap (λ (at : ℕ). part bytes at 128) (let e : 128 * m + 128 * p ≡ 128 * (m + p) = omega arith in e)
+cell-part f bytes m n p within =
+    part-part bytes (width f * m) (width f * n) (width f * p) (width f) (omega (arith, mul-le-mul_left (width f) within)) ∙ ap (λ (at : ℕ). part bytes at (width f)) (sym (mul-add (width f) m p))
 
 -- where a block begins, in bytes
 pub block-from : (f : Format) (block k : ℕ) → k * (width f * block) ≡ width f * (block * k)
@@ -60,8 +53,7 @@ module _ (f : Format) (bytes new : List ℕ) (block k : ℕ) (some : 0 < block) 
   pub block-is_new : (c : ℕ) → c / block ≡ k → cell_bytes f (splice bytes (k * (width f * block)) new) c ≡ cell_bytes f new (c % block)
   block-is_new c here =
       let s = split block c some in
-      let i = s.is in
-      let at : block * k + c % block ≡ c = ap (λ (n : ℕ). block * n + c % block) (sym here) ∙ i in
+      let at : block * k + c % block ≡ c = ap (λ (n : ℕ). block * n + c % block) (sym here) ∙ s.is in
       ap (λ (from : ℕ). cell_bytes f (splice bytes from new) c) (block-from f block k)
       ∙ ap (λ (n : ℕ). cell_bytes f (splice bytes (width f * (block * k)) new) n) (sym at)
       ∙ cell-inside f bytes new (block * k) block (c % block) holds whole s.rest

@@ -60,18 +60,10 @@ finds-one told f number w bytes c size many given is =
     (subst (λ (n : ℕ). Gives told n bytes) (ap (λ (n : ℕ). number * n) size ∙ ap (λ (n : ℕ). n * width f) (let e : number ≡ number / 1 = omega arith in e) ∙ ap (λ (n : ℕ). number / 1 * n) (let e : width f ≡ width f * 1 = omega arith in e)) given)
     (is ∙ ap (λ (n : ℕ). decoded f (cell_bytes f bytes n)) (let e : 0 ≡ number % 1 = omega arith in e)) refl
 
--- what was found is not the device's fault
-found-calm : (before now number : ℕ) (c : Option Cell) → now ≡ before → ReadCalm before now (found number c)
-found-calm before now number None e = e
-found-calm before now number (Some cell) e = e
-
-found-cause : (before now number : ℕ) (c : Option Cell) → HasReadCause before now (found number c)
-found-cause before now number None = tt
-found-cause before now number (Some cell) = tt
-
-found-last : (block number : ℕ) (c : Option Cell) → turned_last block (found number c) ≡ Some block
-found-last block number None = refl
-found-last block number (Some cell) = refl
+-- what was found is not the device's fault, and the block was turned to
+found-all : (before now block number : ℕ) (c : Option Cell) → now ≡ before → ReadCalm before now (found number c) × HasReadCause before now (found number c) × (turned_last block (found number c) ≡ Some block)
+found-all before now block number None e = (e, tt, refl)
+found-all before now block number (Some cell) e = (e, tt, refl)
 
 -- a read after its buffer was turned to the block
 pub turns-found : {D E : Type 0} (counts : D → Counts) (before now : Blocks D) (buffer block number : ℕ) (c : Option Cell) (result : Result Cell ReadFault) (value : Unit {0})
@@ -79,15 +71,16 @@ pub turns-found : {D E : Type 0} (counts : D → Counts) (before now : Blocks D)
     → (last_in before.lasts buffer ≡ Some block → now ≡ before) → Stays before now → result ≡ found number c → Turns counts before now buffer block result
 turns-found counts before now buffer block number c result value called lasts same stays answer =
     subst (λ (r : Result Cell ReadFault). Turns counts before now buffer block r) (sym answer)
-    (record {
+    (let f = found-all (counts before.cache.device).faults (counts now.cache.device).faults block number c called.none_hidden in
+    record {
       faults_stay = called.faults_stay;
-      calm = found-calm (counts before.cache.device).faults (counts now.cache.device).faults number c called.none_hidden;
-      cause = found-cause (counts before.cache.device).faults (counts now.cache.device).faults number c;
+      calm = f.0;
+      cause = f.1;
       reads_stay = called.reads_stay;
       reads_rise = called.reads_rise;
       writes_is = (let low = called.writes_stay in let high = called.writes_rise in omega (arith, low, high));
       others_are = (let low = called.others_stay in let high = called.others_rise in omega (arith, low, high));
-      lasts_are = lasts ∙ ap (λ (x : Option ℕ). set before.lasts buffer x) (sym (found-last block number c));
+      lasts_are = lasts ∙ ap (λ (x : Option ℕ). set before.lasts buffer x) (sym f.2);
       same = same;
       stays = stays;
     })

@@ -22,17 +22,13 @@ use Rattle.cola_run.proofs.Lowers.{IsAround, around-same, around-written, TailsS
 pub ends-within : (g : Geometry) (front : FrontCells) (shadows : List Shadow) (tails : List ℕ) (level : ℕ) → IsShape g front shadows tails → IsOnDevice g level → (shadow_at shadows level).saved ≡ false
     → IsPlace (g.bottom + 1) level (shadow_at shadows level).slot (shadow_at shadows level).len
 ends-within g front shadows tails level shape device unsaved =
-    let low : level ≤ g.bottom = device.within in
-    let stands = shape.shadows_fit level low in
-    let most : (shadow_at shadows level).len ≤ slot_size level = stands.within in
-    let part = shape.unsaved level device unsaved in
-    let blocks : slot_size level % block_cells g ≡ 0 = (slot-blocks g.block_exp level 0 device.whole).1 in
+    let stands = shape.shadows_fit level device.within in
     record {
-      level_in = omega (arith, low);
+      level_in = omega (arith, device.within);
       slot_in = stands.slot_in;
       index_in = elim (cases_eq (shadow_at shadows level).len (slot_size level)) [
-        | inl e ↦ absurd (part (ap (λ (n : ℕ). n % block_cells g) e ∙ blocks))
-        | inr d ↦ omega (arith, most, d)
+        | inl e ↦ absurd ((shape.unsaved level device unsaved) (ap (λ (n : ℕ). n % block_cells g) e ∙ ((slot-blocks g.block_exp level 0 device.whole).1)))
+        | inr d ↦ omega (arith, stands.within, d)
       ];
     }
 
@@ -117,8 +113,7 @@ module _ (g : Geometry) (front : FrontCells) (old new : Lower) (level : ℕ) {T 
       (λ d.
       device-out g new.shadows new.tails c level s i
       (λ q.
-      let h : i < now.len = q.within in
-      d (record { slot_is = q.slot_is ∙ slots; block_is = q.block_is ∙ ap (λ (n : ℕ). n / block_cells g) lens; within = omega (arith, h, lens) }))
+      d (record { slot_is = q.slot_is ∙ slots; block_is = q.block_is ∙ ap (λ (n : ℕ). n / block_cells g) lens; within = omega (arith, q.within, lens) }))
       ∙ around.stays level s i device.whole p (inr (elim (cases_eq s shadow.slot) [
         | inr other ↦ inl other
         | inl same ↦ inr (λ e. elim apart [ inl h ↦ h same | inr h ↦ d (record { slot_is = same; block_is = e; within = h }) ])

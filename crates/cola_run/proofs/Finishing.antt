@@ -1,6 +1,6 @@
 -- That finishes of levels on the device meet the trait.
 use Rattle.std.proofs.Common.{◌≡◌, ◌≢◌, ◌⊎◌, inl, inr, ℕ, ◌+◌, ◌-◌, ◌*◌, ◌^◌, ◌<◌, ◌≤◌, not, Bool, true, false, List, Option, Result, Ok, Err, is_ok, refl, ap, ◌∙◌, arith}
-use Rattle.std.proofs.lemmas.Bool.{false≢true}
+use Rattle.std.proofs.lemmas.Bool.{false≢true, not-true}
 use Rattle.cola_cell.specs.declared.fault.PushFault.{PushFault}
 use Rattle.cola_cell.specs.declared.fault.PushFault.TheVariants.{Device, Overfull}
 use Rattle.cola_cell.specs.declared.sink.Shadow.{Shadow}
@@ -43,11 +43,7 @@ module _ {D K T : Type 0} (bytes : D → Option (List ℕ)) (counts : D → Coun
   shape = sound.cells.shape
 
   place : not shadow.saved ≡ true → IsPlace (g.bottom + 1) level shadow.slot shadow.len
-  place e = ends-within g store.front store.shadows store.tails level shape device (unsaved shadow.saved e)
-    where
-      unsaved : (t : Bool) → not t ≡ true → t ≡ false
-      unsaved true e = absurd (false≢true e)
-      unsaved false e = refl
+  place e = ends-within g store.front store.shadows store.tails level shape device (not-true shadow.saved e)
 
   pub finished-sound : IsStore (bytes now.buffers.cache.device) now
   finished-sound =
@@ -92,9 +88,7 @@ module _ {D K T : Type 0} (bytes : D → Option (List ℕ)) (counts : D → Coun
     where
       small : slot_size level < 8 * 2 ^ (g.block_exp - 3) → ⊥
       small h =
-          let e = span-is g shape.block in
-          let more : 2 ^ g.block_exp ≤ 2 ^ (level + 2) = power-le g.block_exp (level + 2) device.whole in
-          omega (arith, h, e, more)
+          omega (arith, h, span-is g shape.block, power-le g.block_exp (level + 2) device.whole)
 
       saved-of : IsKept (held_of bytes store) level → not shadow.saved ≡ false
       saved-of k = elim k.is [ inl h ↦ ap (λ (t : Bool). not t) h | inr h ↦ absurd (small h) ]

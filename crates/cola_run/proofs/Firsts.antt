@@ -21,6 +21,7 @@ use Rattle.cola_run.specs.Cells.{block_bytes, known_spot, spots_of, IsShape, IsB
 use Rattle.cola_run.specs.Saving.{IsFlushed, AreLevelSpots, AreSpotsBehind, SameFront, SameLevels, SameBehind, IsFirstLast, IsFrontLast}
 use Rattle.cola_run.specs.Loading.{AreSavedBelow}
 use Rattle.cola_run.proofs.Heads.{place-spots}
+use Rattle.cola_run.proofs.Spots.{both-all}
 
 -- a place behind block 0, as part of its block
 begins : (f : Format) (block place : ℕ) → block ≤ place → width f * block + width f * (place - block) ≡ width f * place
@@ -44,16 +45,13 @@ module _ (front : FrontCells) (header bytes : List ℕ) (is : IsFront front) (he
   second-cell place behind within =
       let f = front.format in
       let from : ℕ = width f * (place - front.block) in
-      let at : block_size front + from ≡ width f * place = begins f front.block place behind in
-      let inside : from + width f ≤ block_size front = ends f front.block place behind within in
-      let some : 8 ≤ front.block = is.some in
       let piece : (xs : List ℕ) → part xs (block_size front) (block_size front) ≡ second_block front → part xs (width f * place) (width f) ≡ part (second_block front) from (width f) =
       (λ xs same.
-      ap (λ (n : ℕ). part xs n (width f)) (sym at)
-      ∙ (sym (part-part xs (block_size front) (block_size front) from (width f) inside)
+      ap (λ (n : ℕ). part xs n (width f)) (sym (begins f front.block place behind))
+      ∙ (sym (part-part xs (block_size front) (block_size front) from (width f) (ends f front.block place behind within))
       ∙ ap (λ (ys : List ℕ). part ys from (width f)) same)) in
       sym (ap (decoded f) (piece bytes second ∙ sym (piece (image front header) image-second))
-      ∙ image_cell front header place is head (omega (arith, behind, some)) within)
+      ∙ image_cell front header place is head (omega (arith, behind, is.some)) within)
 
 -- the first block stays where both do
 same-first : (n : ℕ) (b x : List ℕ) → take (2 * n) x ≡ take (2 * n) b → take n x ≡ take n b
@@ -67,9 +65,8 @@ module _ (g : Geometry) (front : FrontCells) (shadows : List Shadow) (tails head
   spots-behind : (bytes : List ℕ) → IsBacked g shadows tails bytes → part bytes (block_size front) (block_size front) ≡ second_block front
       → AreSpotsBehind g (known_spot (record { geometry = g; front = front; lower = record { told = Some bytes; shadows = shadows; tails = tails } }) bytes) bytes
   spots-behind bytes backed second l s i p behind =
-      let block = shape.front_block in
       place-spots g front (record { told = Some bytes; shadows = shadows; tails = tails }) bytes shape backed saved l s i p
-      (λ within. second-cell front header bytes is head second (number_of l s i) (omega (arith, behind, block)) within)
+      (λ within. second-cell front header bytes is head second (number_of l s i) (omega (arith, behind, shape.front_block)) within)
 
   pub first-refused : {E : Type 0} (T : Type 0) (fault : E) (b x y : Option (List ℕ)) → IfSome y (IsBacked g shadows tails) → Both b x (SameFront g) → Both x y (InOrder {T = T} (Err fault) front)
       → Both b y (IsFirstLast g (spots_of (record { geometry = g; front = front; lower = record { told = y; shadows = shadows; tails = tails } })))
@@ -79,18 +76,15 @@ module _ (g : Geometry) (front : FrontCells) (shadows : List Shadow) (tails head
   first-refused T fault (Some b) None y backed same order = absurd same
   first-refused T fault (Some b) (Some x) None backed same order = absurd order
   first-refused T fault (Some b) (Some x) (Some y) backed same order =
-      let either : (part y 0 (block_size front) ≡ part x 0 (block_size front)) ⊎ (part y (block_size front) (block_size front) ≡ second_block front) = order in
-      elim either [
+      elim order [
         | inl stays ↦ inl (subst (λ (n : ℕ). take n y ≡ take n x) size stays ∙ same-first (block_bytes g) b x same)
         | inr second ↦ inr (spots-behind y backed second)
       ]
 
 -- after an accepted one it has every cell
 pub first-written : (g : Geometry) (header : List ℕ) (spots : Spots) (b y : Option (List ℕ)) → Both b y (SameBehind g) → IfSome y (IsFlushed g header spots) → Both b y (IsFirstLast g spots)
-first-written g header spots None None both flushed = tt
-first-written g header spots None (Some y) both flushed = absurd both
-first-written g header spots (Some b) None both flushed = absurd both
-first-written g header spots (Some b) (Some y) both flushed = inr (λ l s i p behind. flushed.cells_are l s i p)
+first-written g header spots b y both flushed =
+    both-all (SameBehind g) (λ x y. IfSome y (IsFlushed g header spots) → Both x y (IsFirstLast g spots)) (λ _. tt) (λ b y _ flushed. inr (λ l s i p behind. flushed.cells_are l s i p)) b y both flushed
 
 -- the front was not begun, or it waited for the levels
 module _ {D : Type 0} (d : device.Ghosts D) (g : Geometry) (before last now : D) (same : d.bytes now ≡ d.bytes last) where

@@ -1,7 +1,9 @@
 -- What a flush leaves, step by step.
 use Rattle.std.proofs.Common.{◌≡◌, inl, inr, ℕ, zero, suc, ◌+◌, ◌-◌, ◌*◌, ◌<◌, ◌≤◌, List, [], ◌∷◌, ◌++◌, length, take, drop, replicate, get_or, Option, None, Some, IfSome, option_map, Result, Ok, Err, refl, sym, ap, subst, ◌∙◌, arith, length-append}
 use Rattle.std.specs.Prelude.{OnOk}
+use Rattle.std.specs.Option.{unwrap_or}
 use Rattle.std.proofs.lemmas.List.{drop-take, drop-replicate, length-replicate, replicate-append-replicate}
+use Rattle.std.proofs.Math.Nat.{mul-le-mul_left}
 use Rattle.std.proofs.Math.Seq.{take-append-add}
 use Rattle.cola_outside.specs.Told.{Both}
 use Rattle.cola_cell.specs.declared.format.Format.{Format}
@@ -25,7 +27,7 @@ use Rattle.cola_run.specs.Cells.{Lower, block_bytes, spots_of, IsShape, IsBacked
 use Rattle.cola_run.specs.Store.{Beside, beside}
 use Rattle.cola_run.specs.Saving.{IsFlushed, AreLevelSpots, SameFront, SameLevels, SameBehind, SettlesTwice}
 use Rattle.cola_run.specs.Loading.{StayRead, SameCells, AreSavedBelow}
-use Rattle.cola_run.proofs.Spots.{both-two}
+use Rattle.cola_run.proofs.Spots.{both-all, both-two}
 use Rattle.cola_run.proofs.Heads.{heads-backed, heads-behind, heads-spots, head-long, level-spots, saved-spots}
 
 -- the bytes of the front's two blocks
@@ -44,29 +46,17 @@ image-fits g front shadows tails header shape is head = let size = front-size g 
 
 -- places without a cell are zeros
 stored-none : (f : Format) (cells : List (Option Cell)) (n : ℕ) → n ≤ length cells → ((place : ℕ) → place < n → get_or cells place None ≡ None) → take (width f * n) (stored_all f cells) ≡ replicate (width f * n) 0
-stored-none f cells zero few none = rw (none-at f) refl
-  where
-    none-at : (f : Format) → width f * 0 ≡ 0
-    none-at One = omega arith
-    none-at Two = omega arith
+stored-none f cells zero few none = let z : width f * 0 ≡ 0 = omega arith in rw z refl
 stored-none f [] (suc n) few none = absurd (omega (arith, few))
 stored-none f (cell ∷ cells) (suc n) few none =
-    let e : width f * suc n ≡ width f + width f * n = more f n in
-    let first : stored f cell ≡ replicate (width f) 0 = ap (λ (c : Option Cell). stored f c) (none 0 (omega arith)) in
-    let many : length (replicate (width f) 0) ≡ width f = length-replicate (width f) 0 in
-    let fewer : n ≤ length cells = omega (arith, few) in
-    let rest = stored-none f cells n fewer (λ place h. none (suc place) (omega (arith, h))) in
+    let e : width f * suc n ≡ width f + width f * n = omega arith in
     ap (λ (m : ℕ). take m (stored f cell ++ stored_all f cells)) e
-    ∙ ap (λ (xs : List ℕ). take (width f + width f * n) (xs ++ stored_all f cells)) first
-    ∙ ap (λ (m : ℕ). take (m + width f * n) (replicate (width f) 0 ++ stored_all f cells)) (sym many)
+    ∙ ap (λ (xs : List ℕ). take (width f + width f * n) (xs ++ stored_all f cells)) (ap (λ (c : Option Cell). stored f c) (none 0 (omega arith)))
+    ∙ ap (λ (m : ℕ). take (m + width f * n) (replicate (width f) 0 ++ stored_all f cells)) (sym (length-replicate (width f) 0))
     ∙ take-append-add (replicate (width f) 0) (stored_all f cells) (width f * n)
-    ∙ ap (λ (xs : List ℕ). replicate (width f) 0 ++ xs) rest
+    ∙ ap (λ (xs : List ℕ). replicate (width f) 0 ++ xs) (stored-none f cells n (omega (arith, few)) (λ place h. none (suc place) (omega (arith, h))))
     ∙ replicate-append-replicate (width f) (width f * n) 0
     ∙ ap (λ (m : ℕ). replicate m 0) (sym e)
-  where
-    more : (f : Format) (n : ℕ) → width f * suc n ≡ width f + width f * n
-    more One n = omega arith
-    more Two n = omega arith
 
 -- the header's cells in the image: its bytes, and zeros
 eight-of : (f : Format) → (512 ≤ 8 * width f) × (width f * 8 ≡ 8 * width f)
@@ -77,18 +67,13 @@ pub image-head : (front : FrontCells) (header : List ℕ) → IsFront front → 
 image-head front header is head =
     let f = front.format in
     let all : List ℕ = stored_all f front.cells in
-    let large : 512 ≤ 8 * width f = (eight-of f).0 in
-    let split : 8 * width f ≡ length header + (8 * width f - 512) = omega (arith, head, large) in
-    let whole : 512 + (8 * width f - 512) ≡ 8 * width f = omega (arith, large) in
-    let some : 8 ≤ front.block = is.some in
-    let many : length front.cells ≡ 2 * front.block = is.many in
     let none : take (8 * width f) all ≡ replicate (8 * width f) 0 =
-    subst (λ (m : ℕ). take m all ≡ replicate m 0) (eight-of f).1 (stored-none f front.cells 8 (omega (arith, some, many)) is.header) in
-    ap (λ (m : ℕ). take m (header ++ drop 512 all)) split
+    subst (λ (m : ℕ). take m all ≡ replicate m 0) (eight-of f).1 (stored-none f front.cells 8 (omega (arith, is.some, is.many)) is.header) in
+    ap (λ (m : ℕ). take m (header ++ drop 512 all)) (omega (arith, head, (eight-of f).0))
     ∙ take-append-add header (drop 512 all) (8 * width f - 512)
     ∙ ap (λ (xs : List ℕ). header ++ xs)
     (sym (drop-take 512 (8 * width f - 512) all)
-    ∙ ap (λ (m : ℕ). drop 512 (take m all)) whole
+    ∙ ap (λ (m : ℕ). drop 512 (take m all)) (omega (arith, (eight-of f).0))
     ∙ ap (λ (xs : List ℕ). drop 512 xs) none
     ∙ drop-replicate 512 (8 * width f) 0)
 
@@ -100,33 +85,19 @@ module _ (front : FrontCells) (header bytes : List ℕ) (is : IsFront front) (he
       let e : 0 + from ≡ from = omega arith in
       ap (λ (n : ℕ). part (splice bytes 0 (image front header)) n count) (sym e) ∙ part-splice_inside bytes 0 (image front header) from count (omega arith) (omega (arith, h, many))
 
-  room : (f : Format) (place block : ℕ) → place < 2 * block → width f * place + width f ≤ 2 * (width f * block)
-  room One place block h = omega (arith, h)
-  room Two place block h = omega (arith, h)
-
   pub written-loaded : IsLoaded (splice bytes 0 (image front header)) front
   written-loaded place behind within =
-      sym (ap (λ (xs : List ℕ). decoded front.format xs) (inside (width front.format * place) (width front.format) (room front.format place front.block within))
+      sym (ap (λ (xs : List ℕ). decoded front.format xs) (inside (width front.format * place) (width front.format) (omega (arith, mul-le-mul_left (width front.format) within)))
       ∙ image_cell front header place is head behind within)
 
-  head-room : (f : Format) (block : ℕ) → 8 ≤ block → 0 + 8 * width f ≤ 2 * (width f * block)
-  head-room One block h = omega (arith, h)
-  head-room Two block h = omega (arith, h)
-
   pub written-head : take (8 * width front.format) (splice bytes 0 (image front header)) ≡ header ++ replicate (8 * width front.format - 512) 0
-  written-head = inside 0 (8 * width front.format) (head-room front.format front.block is.some) ∙ image-head front header is head
+  written-head = inside 0 (8 * width front.format) (omega (arith, mul-le-mul_left (width front.format) is.some)) ∙ image-head front header is head
 
 -- steps of a flush, one behind the other
 beside-so : (g : Geometry) (P : List ℕ → List ℕ → Type 0) → ((b c : List ℕ) → beside g c ≡ beside g b → P b c)
     → (x y : Option (List ℕ)) → Both x y (λ _ _. Unit {0}) → option_map (beside g) y ≡ option_map (beside g) x → Both x y P
-beside-so g P f None None h e = tt
-beside-so g P f None (Some c) h e = absurd h
-beside-so g P f (Some b) None h e = absurd h
-beside-so g P f (Some b) (Some c) h e = f b c (ap (λ (o : Option Beside). option_or o (beside g b)) e)
-  where
-    option_or : Option Beside → Beside → Beside
-    option_or None y = y
-    option_or (Some x) y = x
+beside-so g P f x y h e =
+    both-all (λ _ _. Unit {0}) (λ x y. option_map (beside g) y ≡ option_map (beside g) x → Both x y P) (λ _. tt) (λ b c _ e. f b c (ap (λ (o : Option Beside). unwrap_or o (beside g b)) e)) x y h e
 
 -- the first two blocks stay where all that lies beside the levels on the device does
 pub front-waits : (g : Geometry) (x y : Option (List ℕ)) → Both x y (λ _ _. Unit {0}) → option_map (beside g) y ≡ option_map (beside g) x → Both x y (SameFront g)
@@ -173,22 +144,21 @@ same-head g front shadows tails result at from x y fits within backed w = record
 pub flushed-by : (T E : Type 0) (value : T) (g : Geometry) (front : FrontCells) (shadows : List Shadow) (tails header : List ℕ) (x y : Option (List ℕ)) → IsShape g front shadows tails → IsFront front → length header ≡ 512
     → IfSome x (IsBacked g shadows tails) → AreSavedBelow g shadows (g.bottom + 1) → Wrote {E = E} (Ok value) 0 (image front header) x y
     → IfSome y (IsFlushed g header (spots_of (record { geometry = g; front = front; lower = record { told = y; shadows = shadows; tails = tails } })))
-flushed-by T E value g front shadows tails header None None shape is head backed saved w = tt
-flushed-by T E value g front shadows tails header None (Some y) shape is head backed saved w = absurd w
-flushed-by T E value g front shadows tails header (Some x) None shape is head backed saved w = absurd w
-flushed-by T E value g front shadows tails header (Some x) (Some y) shape is head backed saved w =
-    let v : WroteSome {E = E} (Ok value) 0 (image front header) x y = w in
-    let at : y ≡ splice x 0 (image front header) = v.others_stay ∙ ap (λ (left : List ℕ). splice x 0 left) v.exact in
-    let size = front-size g front shadows tails shape in
+flushed-by T E value g front shadows tails header x y shape is head backed saved w =
+    both-all (WroteSome {E = E} (Ok value) 0 (image front header))
+    (λ x y. IfSome x (IsBacked g shadows tails) → IfSome y (IsFlushed g header (spots_of (record { geometry = g; front = front; lower = record { told = y; shadows = shadows; tails = tails } })))) (λ _. tt)
+    (λ b c v backed.
+    let at : c ≡ splice b 0 (image front header) = v.others_stay ∙ ap (λ (left : List ℕ). splice b 0 left) v.exact in
     let within = image-fits g front shadows tails header shape is head in
     let ok : Result T E = Ok value in
-    let file = heads-backed g shape.block shadows tails ok 0 (image front header) within (Some x) (Some y) w backed in
-    let inside : 2 * block_size front ≤ length x = (let h = head-long g shape.block in let long = backed.long in omega (arith, h, long, size)) in
+    let inside : 2 * block_size front ≤ length b = omega (arith, head-long g shape.block, backed.long, front-size g front shadows tails shape) in
     record {
       header_is = ap (λ (xs : List ℕ). take (8 * width g.format) xs) at
-          ∙ subst (λ (f : Format). take (8 * width f) (splice x 0 (image front header)) ≡ header ++ replicate (8 * width f - 512) 0) shape.format (written-head front header x is head inside);
-      cells_are = λ l s i p. saved-spots g front (record { told = Some y; shadows = shadows; tails = tails }) y shape file saved (subst (λ (bytes : List ℕ). IsLoaded bytes front) (sym at) (written-loaded front header x is head inside)) l s i p;
-    }
+          ∙ subst (λ (f : Format). take (8 * width f) (splice b 0 (image front header)) ≡ header ++ replicate (8 * width f - 512) 0) shape.format (written-head front header b is head inside);
+      cells_are = λ l s i p. saved-spots g front (record { told = Some c; shadows = shadows; tails = tails }) c shape (heads-backed g shape.block shadows tails ok 0 (image front header) within (Some b) (Some c) v backed) saved
+          (subst (λ (bytes : List ℕ). IsLoaded bytes front) (sym at) (written-loaded front header b is head inside)) l s i p;
+    })
+    x y w backed
 
 -- a flush that settled, wrote the front and settled again
 pub settles-twice : {D : Type 0} (d : device.Ghosts D) (g : Geometry) (result : Result (Unit {0}) DeviceFault) (before between last now : D) → IsSettled d between → Both (d.bytes before) (d.bytes between) (SameFront g)

@@ -59,10 +59,7 @@ module _ {D K : Type 0} (bytes : D → Option (List ℕ)) (counts : D → Counts
   -- a slot of the front is less than a block
   small : slot_size level + 1 ≤ block_cells g
   small =
-      let more : 2 ^ (level + 3) ≤ 2 ^ g.block_exp = power-le (level + 3) g.block_exp (omega (arith, low)) in
-      let twice : 2 ^ (level + 3) ≡ 2 ^ (level + 2) + 2 ^ (level + 2) = next_power (level + 2) (level + 3) (omega arith) in
-      let some : 0 < 2 ^ (level + 2) = pow_pos (level + 2) in
-      omega (arith, more, twice, some)
+      omega (arith, power-le (level + 3) g.block_exp (omega (arith, low)), next_power (level + 2) (level + 3) (omega arith), pow_pos (level + 2))
 
   place : (k : ℕ) → k < count → IsPlace (g.bottom + 1) level shadow.slot (shadow.len + k)
   place k h = let stands = sound.cells.shape.shadows_fit level within in record { level_in = omega (arith, within); slot_in = stands.slot_in; index_in = omega (arith, few, h) }
@@ -73,12 +70,10 @@ module _ {D K : Type 0} (bytes : D → Option (List ℕ)) (counts : D → Counts
       ≡ with_cell (told_spot (cells_by g store.front lower) x level shadow.slot (shadow.len + k)) (as_cell (standing g.format (cell_bytes_at g.format k room)))
   stands-now None k h = refl
   stands-now (Some b) k h =
-      let p = place k h in
       let c = standing g.format (cell_bytes_at g.format k room) in
-      let number : number_of level shadow.slot (shadow.len + k) ≡ end_number store.shadows level + k = omega arith in
-      spot-there (cells_by g now.front lower-now) b level shadow.slot (shadow.len + k) p
+      spot-there (cells_by g now.front lower-now) b level shadow.slot (shadow.len + k) (place k h)
       ∙ spot-front (cells_by g now.front lower-now) b level shadow.slot (shadow.len + k) low
-      ∙ ap (λ (x : Option Cell). spot_of x) (ap (λ (n : ℕ). cell_at now.front n) number ∙ put.placed k h)
+      ∙ ap (λ (x : Option Cell). spot_of x) (ap (λ (n : ℕ). cell_at now.front n) (omega arith) ∙ put.placed k h)
       ∙ sym (put_is_told (known_spot (cells_by g store.front lower) b level shadow.slot (shadow.len + k)) (as_cell c) (known-told (cells_by g store.front lower) b level shadow.slot (shadow.len + k)))
 
   -- a place that is none of these
@@ -90,8 +85,7 @@ module _ {D K : Type 0} (bytes : D → Option (List ℕ)) (counts : D → Counts
       | inl inside ↦
           let k = number_of l s i - end_number store.shadows level in
           let below : k < count = omega (arith, from, inside) in
-          let number : number_of l s i ≡ number_of level shadow.slot (shadow.len + k) = omega (arith, from) in
-          let (levels, slots, indices) = place-differ g.bottom l s i level shadow.slot (shadow.len + k) p (place k below) number in
+          let (levels, slots, indices) = place-differ g.bottom l s i level shadow.slot (shadow.len + k) p (place k below) (omega (arith, from)) in
           absurd (elim d [
             | inl x ↦ x levels
             | inr (inl x) ↦ x slots
@@ -107,9 +101,8 @@ module _ {D K : Type 0} (bytes : D → Option (List ℕ)) (counts : D → Counts
     shadow_is = put.shadow.is;
     fits = few;
     in_block = λ d.
-        let s = small in
-        let rest : shadow.len % block_cells g ≡ shadow.len = mod-eq_of_lt (omega (arith, few, s)) in
-        subst (λ (n : ℕ). shadow.len % n + count < n) (sym (span-is g sound.cells.shape.block)) (omega (arith, few, s, rest));
+        let rest : shadow.len % block_cells g ≡ shadow.len = mod-eq_of_lt (omega (arith, few, small)) in
+        subst (λ (n : ℕ). shadow.len % n + count < n) (sym (span-is g sound.cells.shape.block)) (omega (arith, few, small, rest));
     spelled = spelled;
     cells_are = λ k h.
         spots-now bytes counts kept store now level (grown count shadow) sound same buffers tails put.shadow level shadow.slot (shadow.len + k)

@@ -76,14 +76,11 @@ module _ {D K : Type 0} (bytes : D → Option (List ℕ)) (counts : D → Counts
         saved-of k high = elim k.is [
           | inl h ↦ h
           | inr h ↦ absurd (
-              let e = span-is g sound.cells.shape.block in
-              let more : 2 ^ g.block_exp ≤ 2 ^ (level + 2) = power-le g.block_exp (level + 2) high in
-              omega (arith, h, e, more))
+              omega (arith, h, span-is g sound.cells.shape.block, power-le g.block_exp (level + 2) high))
         ]
 
   -- a finish of a level of the front
-  module _ {T : Type 0} (result : Result T PushFault) (front : now.front ≡ store.front) (low : level + 2 < g.block_exp) (within : level ≤ g.bottom) (is : shadow-now ≡ record (shadow_at store.shadows level) { saved = true }) (accepted : is_ok result ≡ true)
-      (ticked : Ticks store.ticked now.ticked 0) where
+  module _ (low : level + 2 < g.block_exp) (within : level ≤ g.bottom) (is : shadow-now ≡ record (shadow_at store.shadows level) { saved = true }) (front : now.front ≡ store.front) where
     pub front-finished-sound : IsStore (bytes now.buffers.cache.device) now
     front-finished-sound =
         let stands = sound.cells.shape.shadows_fit level within in
@@ -91,32 +88,20 @@ module _ {D K : Type 0} (bytes : D → Option (List ℕ)) (counts : D → Counts
         (front-shape g store.front store.front lower lower-now level shadow-now sound.cells.shape told-same tails one low (subst (λ (x : Shadow). IsShadow level x) (sym is) (record { slot_in = stands.slot_in; within = stands.within })))
         (front-backed g store.front store.front lower lower-now level shadow-now sound.cells.shape told-same tails one low sound.cells.backed)
 
-    pub front-finished-meets : Finishes (state_of bytes counts store) (state_of bytes counts now) level result
-    front-finished-meets = record {
+    pub front-finished-meets : {T : Type 0} (value : T) → Finishes (state_of bytes counts store) (state_of bytes counts now) level (Ok value)
+    front-finished-meets value = record {
       around = same-around;
-      answer = by-answer result accepted;
-      calm = by-calm result accepted;
-      shadow_is = one.is ∙ is ∙ ap (λ (t : Bool). record (shadow_at store.shadows level) { saved = t }) (sym accepted);
+      answer = tt;
+      calm = ap (λ (b : Blocks D). (counts b.cache.device).faults) buffers;
+      shadow_is = one.is ∙ is;
       others_stay = λ l s i _. front-now front l s i ∙ front-stays g store.front store.front lower lower-now level shadow-now sound.cells.shape told-same tails one low l s i (λ _ _. refl);
     }
-      where
-        faults : (counts now.buffers.cache.device).faults ≡ (counts store.buffers.cache.device).faults
-        faults = ap (λ (b : Blocks D). (counts b.cache.device).faults) buffers
-
-        by-answer : (r : Result T PushFault) → is_ok r ≡ true → FinishAnswers (held_of bytes store) (counts store.buffers.cache.device).faults (counts now.buffers.cache.device).faults level r
-        by-answer (Ok value) e = tt
-        by-answer (Err fault) e = absurd (false≢true e)
-
-        by-calm : (r : Result T PushFault) → is_ok r ≡ true → WriteCalm (counts store.buffers.cache.device).faults (counts now.buffers.cache.device).faults r
-        by-calm (Ok value) e = faults
-        by-calm (Err fault) e = absurd (false≢true e)
 
   -- a push to a level of the front
-  module _ {T : Type 0} (cell : Cell) (result : Result T PushFault) (low : level + 2 < g.block_exp) (within : level ≤ g.bottom) (room : (shadow_at store.shadows level).len < slot_size level)
+  module _ (cell : Cell) (low : level + 2 < g.block_exp) (within : level ≤ g.bottom) (room : (shadow_at store.shadows level).len < slot_size level)
       (front : now.front ≡ record store.front { cells = set store.front.cells (number_of level (shadow_at store.shadows level).slot (shadow_at store.shadows level).len) (Some cell) })
       (inside : number_of level (shadow_at store.shadows level).slot (shadow_at store.shadows level).len < length store.front.cells)
-      (is : shadow-now ≡ record { slot = (shadow_at store.shadows level).slot; len = (shadow_at store.shadows level).len + 1; saved = fills g (shadow_at store.shadows level).len }) (accepted : is_ok result ≡ true)
-      (ticked : Ticks store.ticked now.ticked 1) where
+      (is : shadow-now ≡ record { slot = (shadow_at store.shadows level).slot; len = (shadow_at store.shadows level).len + 1; saved = fills g (shadow_at store.shadows level).len }) where
     abbrev shadow : Shadow
     shadow = shadow_at store.shadows level
 
@@ -137,23 +122,11 @@ module _ {D K : Type 0} (bytes : D → Option (List ℕ)) (counts : D → Counts
     put-now : (l s i : ℕ) → spots_of (cells_of (bytes now.buffers.cache.device) now) l s i ≡ spots_of (cells_by g put lower-now) l s i
     put-now l s i = spots-now l s i ∙ ap (λ (x : FrontCells). spots_of (cells_by g x lower-now) l s i) front
 
-    pub front-pushed-meets : Pushes (state_of bytes counts store) (state_of bytes counts now) level cell result
-    front-pushed-meets = record {
+    pub front-pushed-meets : {T : Type 0} (value : T) → Pushes (state_of bytes counts store) (state_of bytes counts now) level cell (Ok value)
+    front-pushed-meets value = record {
       around = same-around;
-      answer = by-answer result accepted;
-      calm = by-calm result accepted;
-      shadow_is = one.is ∙ is ∙ by-shadow result accepted;
+      answer = (room, put-now level shadow.slot shadow.len ∙ put-end g store.front cell lower lower-now level shadow.slot shadow.len place low inside told-same);
+      calm = ap (λ (b : Blocks D). (counts b.cache.device).faults) buffers;
+      shadow_is = one.is ∙ is ∙ ap (λ (n : ℕ). record { slot = shadow.slot; len = shadow.len + 1; saved = (shadow.len + 1) % n == 0 }) (sym (span-is g sound.cells.shape.block));
       others_stay = λ l s i apart. put-now l s i ∙ front-stays g store.front put lower lower-now level shadow-now sound.cells.shape told-same tails one low l s i (λ p _. put-elsewhere g store.front cell level shadow.slot shadow.len l s i place apart p);
     }
-      where
-        by-answer : (r : Result T PushFault) → is_ok r ≡ true → PushAnswers (state_of bytes counts store) (state_of bytes counts now) level cell r
-        by-answer (Ok value) e = (room, put-now level shadow.slot shadow.len ∙ put-end g store.front cell lower lower-now level shadow.slot shadow.len place low inside told-same)
-        by-answer (Err fault) e = absurd (false≢true e)
-
-        by-calm : (r : Result T PushFault) → is_ok r ≡ true → WriteCalm (counts store.buffers.cache.device).faults (counts now.buffers.cache.device).faults r
-        by-calm (Ok value) e = ap (λ (b : Blocks D). (counts b.cache.device).faults) buffers
-        by-calm (Err fault) e = absurd (false≢true e)
-
-        by-shadow : (r : Result T PushFault) → is_ok r ≡ true → record { slot = shadow.slot; len = shadow.len + 1; saved = fills g shadow.len } ≡ after_push (span (held_of bytes store)) shadow r
-        by-shadow (Ok value) e = ap (λ (n : ℕ). record { slot = shadow.slot; len = shadow.len + 1; saved = (shadow.len + 1) % n == 0 }) (sym (span-is g sound.cells.shape.block))
-        by-shadow (Err fault) e = absurd (false≢true e)

@@ -37,40 +37,29 @@ front-bad header front level number low fit few above bad = record {
     | inr other ↦ elim other [
       | inl less ↦ above l s i less run
       | inr more ↦ absurd (
-          let at = bad.bad.at in
-          let slot_in = bad.slot_in in
-          let within = bad.bad.within in
           let most : run_len header level bad.slot ≤ slot_size level = fit level bad.slot (omega (arith, low, few)) in
-          let end : number_of level bad.slot bad.bad.index < 2 ^ (level + 4) = place-below level bad.slot bad.bad.index (omega (arith, slot_in)) (omega (arith, within, most)) in
-          let begin : 2 ^ (l + 3) ≤ number_of l s i = place-from l s i in
           let grow : 2 ^ (level + 4) ≤ 2 ^ (l + 3) = power-le (level + 4) (l + 3) (omega (arith, more)) in
-          omega (arith, below, at, end, begin, grow))
+          omega (arith, below, bad.bad.at, place-below level bad.slot bad.bad.index (omega (arith, bad.slot_in)) (omega (arith, bad.bad.within, most)), place-from l s i, grow))
     ]
   ];
 }
   where
     here : (s i : ℕ) → IsFrontRun header level s i → number_of level s i < number → cell_at front (number_of level s i) ≢ None
     here s i run below =
-        let at = bad.bad.at in
-        let mine = bad.slot_in in
-        let its = run.slot_in in
         elim (cases_order s bad.slot) [
           | inl same ↦
-              let e : number ≡ number_of level s bad.bad.index = at ∙ ap (λ (x : ℕ). number_of level x bad.bad.index) (sym same) in
+              let e : number ≡ number_of level s bad.bad.index = bad.bad.at ∙ ap (λ (x : ℕ). number_of level x bad.bad.index) (sym same) in
               subst (λ (x : ℕ). cell_at front (number_of level x i) ≢ None) (sym same) (bad.bad.first i (omega (arith, below, e)))
           | inr other ↦ elim other [
             | inl less ↦
-                let zero : s ≡ 0 = omega (arith, less, mine) in
-                let one : bad.slot ≡ 1 = omega (arith, less, mine) in
+                let zero : s ≡ 0 = omega (arith, less, bad.slot_in) in
+                let one : bad.slot ≡ 1 = omega (arith, less, bad.slot_in) in
                 subst (λ (x : ℕ). cell_at front (number_of level x i) ≢ None) (sym zero) (bad.before one i (let w = run.within in subst (λ (x : ℕ). i < run_len header level x) zero w))
             | inr more ↦ absurd (
-                let zero : bad.slot ≡ 0 = omega (arith, more, its) in
-                let one : s ≡ 1 = omega (arith, more, its) in
-                let within = bad.bad.within in
-                let most : run_len header level bad.slot ≤ slot_size level = fit level bad.slot (omega (arith, low, few)) in
-                let e : number ≡ (2 + 0) * slot_size level + bad.bad.index = at ∙ ap (λ (x : ℕ). number_of level x bad.bad.index) zero in
-                let f : number_of level s i ≡ (2 + 1) * slot_size level + i = ap (λ (x : ℕ). number_of level x i) one in
-                omega (arith, below, e, f, within, most))
+                let zero : bad.slot ≡ 0 = omega (arith, more, run.slot_in) in
+                let one : s ≡ 1 = omega (arith, more, run.slot_in) in
+                let e : number ≡ (2 + 0) * slot_size level + bad.bad.index = bad.bad.at ∙ ap (λ (x : ℕ). number_of level x bad.bad.index) zero in
+                omega (arith, below, e, ap (λ (x : ℕ). number_of level x i) one, bad.bad.within, fit level bad.slot (omega (arith, low, few))))
           ]
         ]
 
@@ -80,10 +69,8 @@ module _ (header : Header) (front : FrontCells) (bytes : List ℕ) (loaded : IsL
   spot-is : (l s i : ℕ) → IsFrontRun header l s i → file_spots header.geometry.format bytes l s i ≡ spot_of (cell_at front (number_of l s i))
   spot-is l s i run =
       let low = run.front in
-      let slot = run.slot_in in
-      let within = run.within in
       let most : run_len header l s ≤ slot_size l = fit l s (omega (arith, low, few)) in
-      let below : number_of l s i < 2 ^ (header.geometry.block_exp + 1) = front-below header.geometry.block_exp l s i (omega (arith, slot)) (omega (arith, within, most)) low in
+      let below : number_of l s i < 2 ^ (header.geometry.block_exp + 1) = front-below header.geometry.block_exp l s i (omega (arith, run.slot_in)) (omega (arith, run.within, most)) low in
       let twice : 2 ^ (header.geometry.block_exp + 1) ≡ 2 ^ header.geometry.block_exp + 2 ^ header.geometry.block_exp = next_power header.geometry.block_exp (header.geometry.block_exp + 1) (omega arith) in
       sym (ap (λ (c : Option Cell). spot_of c) (loaded (number_of l s i) (place-behind l s i) (omega (arith, below, twice, block))) ∙ ap (λ (f : Format). spot_of (decoded f (cell_bytes f bytes (number_of l s i)))) format)
 

@@ -1,6 +1,7 @@
 -- What writes to the two blocks of the front leave; and when the cells of a store are those of its file.
 use Rattle.std.proofs.Common.{◌≡◌, inl, inr, ℕ, ◌+◌, ◌*◌, ◌^◌, ◌<◌, ◌≤◌, List, length, drop, Option, None, Some, IfSome, Result, refl, sym, ap, subst, ◌∙◌, arith}
 use Rattle.std.proofs.lemmas.Bool.{cases_lt}
+use Rattle.std.proofs.Math.Nat.{mul-le-mul_left}
 use Rattle.cola_outside.specs.Told.{Both}
 use Rattle.cola_cell.specs.declared.format.Format.{Format}
 use Rattle.cola_cell.specs.declared.format.Format.TheVariants.{One, Two}
@@ -27,8 +28,7 @@ use Rattle.cola_run.proofs.Spots.{tail-is, device-in, device-out, device-is, spo
 
 -- the bytes of the front's blocks end before those of a place on the device
 cell-behind : (f : Format) (b n m : ℕ) → 2 ^ (b + 1) ≤ n → m ≤ 2 * (width f * 2 ^ b) → m ≤ width f * n
-cell-behind One b n m h k = let t : 2 ^ (b + 1) ≡ 2 ^ b + 2 ^ b = next_power b (b + 1) (omega arith) in omega (arith, h, k, t)
-cell-behind Two b n m h k = let t : 2 ^ (b + 1) ≡ 2 ^ b + 2 ^ b = next_power b (b + 1) (omega arith) in omega (arith, h, k, t)
+cell-behind f b n m h k = omega (arith, k, mul-le-mul_left (width f) h, ap (λ (x : ℕ). width f * x) (next_power b (b + 1) (omega arith)))
 
 -- and before the end of the file
 file-behind : (f : Format) (b bottom m : ℕ) → b ≤ bottom + 2 → m ≤ 2 * (width f * 2 ^ b) → m ≤ width f * 2 ^ (bottom + 4)
@@ -44,8 +44,7 @@ module _ (g : Geometry) (fits : IsBlock g.block_exp g.bottom) (bytes left : List
 
   pub head-stays : (l s i : ℕ) → g.block_exp ≤ l + 2 → cell_bytes g.format (splice bytes at left) (number_of l s i) ≡ cell_bytes g.format bytes (number_of l s i)
   head-stays l s i high =
-      let h = head-fits in
-      part-splice_above bytes at left (width g.format * number_of l s i) (width g.format) (omega (arith, h, long))
+      part-splice_above bytes at left (width g.format * number_of l s i) (width g.format) (omega (arith, head-fits, long))
       (cell-behind g.format g.block_exp (number_of l s i) (at + length left) (device-behind g.block_exp l s i high) within)
 
   pub head-behind : drop (file_bytes g) (splice bytes at left) ≡ drop (file_bytes g) bytes
@@ -99,7 +98,6 @@ module _ {T E : Type 0} (g : Geometry) (fits : IsBlock g.block_exp g.bottom) (sh
 pub level-spots : (g : Geometry) (front : FrontCells) (lower : Lower) (bytes : List ℕ) → IsBacked g lower.shadows lower.tails bytes → AreSavedBelow g lower.shadows (g.bottom + 1)
     → AreLevelSpots g (known_spot (cells_by g front lower) bytes) bytes
 level-spots g front lower bytes backed saved l s i on p =
-    let low : l < g.bottom + 1 = p.level_in in
     spot-there (cells_by g front lower) bytes l s i p
     ∙ spot-device (cells_by g front lower) bytes l s i on.whole
     ∙ ap (λ (x : List ℕ). spot_of_bytes g.format x)
@@ -107,7 +105,7 @@ level-spots g front lower bytes backed saved l s i on p =
     (λ q.
     let sh = shadow_at lower.shadows l in
     ap (λ (x : ℕ). cell_bytes g.format bytes (number_of l x i)) q.slot_is
-    ∙ backed.saved l on (saved l on low) i (tail-is (block_cells g) sh sh.slot i (record { slot_is = refl; block_is = q.block_is; within = q.within })))
+    ∙ backed.saved l on (saved l on p.level_in) i (tail-is (block_cells g) sh sh.slot i (record { slot_is = refl; block_is = q.block_is; within = q.within })))
     (λ d. refl)))
 
 -- a cell of a store is that of its file where each shadow is on the device, and the file has it if it is one of the front
@@ -117,13 +115,10 @@ pub place-spots : (g : Geometry) (front : FrontCells) (lower : Lower) (bytes : L
 place-spots g front lower bytes shape backed saved l s i p there =
     elim (cases_lt (l + 2) g.block_exp) [
       | inl low ↦
-          let slot = p.slot_in in
-          let below : number_of l s i < 2 ^ (g.block_exp + 1) = front-below g.block_exp l s i (omega (arith, slot)) p.index_in low in
           let twice : 2 ^ (g.block_exp + 1) ≡ 2 ^ g.block_exp + 2 ^ g.block_exp = next_power g.block_exp (g.block_exp + 1) (omega arith) in
-          let block = shape.front_block in
           spot-there (cells_by g front lower) bytes l s i p
           ∙ spot-front (cells_by g front lower) bytes l s i low
-          ∙ ap (λ (c : Option Cell). spot_of c) (there (omega (arith, below, twice, block)))
+          ∙ ap (λ (c : Option Cell). spot_of c) (there (omega (arith, front-below g.block_exp l s i (omega (arith, p.slot_in)) p.index_in low, twice, shape.front_block)))
           ∙ ap (λ (f : Format). spot_of (decoded f (cell_bytes f bytes (number_of l s i)))) shape.format
       | inr high ↦ level-spots g front lower bytes backed saved l s i (on-device g l s i p high) p
     ]

@@ -32,14 +32,12 @@ slot-block-is first zero m s r few slot within =
     within
 slot-block-is first (suc more) m s r few slot within = elim (cases_lt m (suc more)) [
   | inl below ↦
-      let twice : 2 ^ (suc m) ≡ 2 ^ m + 2 ^ m = next_power m (suc m) (omega arith) in
-      let four : 2 ^ (suc m + 1) ≡ 2 ^ suc m + 2 ^ suc m = next_power (suc m) (suc m + 1) (omega arith) in
       let more_is : 2 ^ (suc m + 1) ≤ 2 ^ (suc more + 1) = power-le (suc m + 1) (suc more + 1) (omega (arith, below)) in
       let two : (2 + s) * 2 ^ m ≤ 3 * 2 ^ m = elim (cases_lt s 1) [
         | inl h ↦ (let e : s ≡ 0 = omega (arith, h) in rw e (omega arith))
         | inr h ↦ (let e : s ≡ 1 = omega (arith, h, slot) in rw e (omega arith))
       ] in
-      let small : (2 + s) * 2 ^ m + r < 2 ^ (suc more + 1) = omega (arith, twice, four, more_is, two, within) in
+      let small : (2 + s) * 2 ^ m + r < 2 ^ (suc more + 1) = omega (arith, next_power m (suc m) (omega arith), next_power (suc m) (suc m + 1) (omega arith), more_is, two, within) in
       choose-then (nat_lt ((2 + s) * 2 ^ m + r) (2 ^ (suc more + 1))) (slot_block first more ((2 + s) * 2 ^ m + r))
       (record { level = first + suc more; slot = ((2 + s) * 2 ^ m + r) / 2 ^ suc more - 2; number = ((2 + s) * 2 ^ m + r) % 2 ^ suc more }) (lt-ltb ((2 + s) * 2 ^ m + r) (2 ^ (suc more + 1)) small)
       ∙ slot-block-is first more m s r (omega (arith, below)) slot within
@@ -81,19 +79,16 @@ slot-block-back first (suc more) k behind = by-test (nat_lt k (2 ^ (suc more + 1
           | inl h ↦ absurd (let m : 2 ^ suc more * (k / 2 ^ suc more) ≤ 2 ^ suc more * 1 = mul-le-mul_left (2 ^ suc more) (let x : k / 2 ^ suc more ≤ 1 = omega (arith, h) in x) in omega (arith, m, i, r, large, twice))
         ] in
         let up : 2 + (k / 2 ^ suc more - 2) ≡ k / 2 ^ suc more = omega (arith, two) in
-        let turn : k / 2 ^ suc more * 2 ^ suc more ≡ 2 ^ suc more * (k / 2 ^ suc more) = mul_comm (k / 2 ^ suc more) (2 ^ suc more) in
-        rw (levels, up) (omega (arith, turn, i))
+        rw (levels, up) (omega (arith, mul_comm (k / 2 ^ suc more) (2 ^ suc more), i))
 
 -- the number of a place's block, and the block
 pub block-number-is : (g : Geometry) (l s i : ℕ) → IsBlock g.block_exp g.bottom → g.block_exp ≤ l + 2 → IsPlace (g.bottom + 1) l s i → as_block g (block_number g l s i) ≡ Some (block_of (block_cells g) l s i)
 block-number-is g l s i fits high p =
-    let group : 3 ≤ g.block_exp = fits.group in
     let low : l < g.bottom + 1 = p.level_in in
     let two : 2 ≤ block_number g l s i = block-behind g.block_exp l s i high in
-    let is : block_number g l s i ≡ (2 + s) * 2 ^ (l + 2 - g.block_exp) + i / block_cells g = block-is g.block_exp l s i high in
-    let levels : g.block_exp - 2 + (l + 2 - g.block_exp) ≡ l = omega (arith, group, high) in
+    let levels : g.block_exp - 2 + (l + 2 - g.block_exp) ≡ l = omega (arith, fits.group, high) in
     choose-else (nat_lt (block_number g l s i) 2) None (Some (slot_block (g.block_exp - 2) (g.bottom + 2 - g.block_exp) (block_number g l s i))) (le-ltb (block_number g l s i) 2 two)
-    ∙ ap (λ (k : ℕ). Some (slot_block (g.block_exp - 2) (g.bottom + 2 - g.block_exp) k)) is
+    ∙ ap (λ (k : ℕ). Some (slot_block (g.block_exp - 2) (g.bottom + 2 - g.block_exp) k)) (block-is g.block_exp l s i high)
     ∙ ap (λ (b : Block). Some b) (slot-block-is (g.block_exp - 2) (g.bottom + 2 - g.block_exp) (l + 2 - g.block_exp) s (i / block_cells g) (omega (arith, low)) p.slot_in (block-within g.block_exp l s i high p.index_in))
     ∙ ap (λ (x : ℕ). Some (record { level = x; slot = s; number = i / block_cells g })) levels
 
@@ -109,10 +104,9 @@ held-is g l s i (Some k) fits high e = by-test (nat_lt k 2) refl e
     by-test : (t : Bool) → nat_lt k 2 ≡ t → (if t then None else Some (slot_block (g.block_exp - 2) (g.bottom + 2 - g.block_exp) k)) ≡ Some (block_of (block_cells g) l s i) → Some k ≡ Some (block_number g l s i)
     by-test true low e = absurd (cc)
     by-test false low e =
-        let group : 3 ≤ g.block_exp = fits.group in
         let same : slot_block (g.block_exp - 2) (g.bottom + 2 - g.block_exp) k ≡ block_of (block_cells g) l s i = ap get e in
         let back : k ≡ file-number (g.block_exp - 2) (slot_block (g.block_exp - 2) (g.bottom + 2 - g.block_exp) k) = slot-block-back (g.block_exp - 2) (g.bottom + 2 - g.block_exp) k (ltb-false k 2 low) in
-        let levels : l - (g.block_exp - 2) ≡ l + 2 - g.block_exp = omega (arith, group, high) in
+        let levels : l - (g.block_exp - 2) ≡ l + 2 - g.block_exp = omega (arith, fits.group, high) in
         ap Some (back ∙ ap (λ (b : Block). file-number (g.block_exp - 2) b) same ∙ ap (λ (m : ℕ). (2 + s) * 2 ^ m + i / block_cells g) levels ∙ sym (block-is g.block_exp l s i high))
 
 -- different buffers of the trait have different buffers
@@ -149,12 +143,10 @@ others-stay g lasts (Some q) level now (By r l) high apart = by-test (nat_lt (l 
     by-test false e =
         let here : g.block_exp ≤ l + 2 = ltb-false (l + 2) g.block_exp e in
         let x = reader-within r in
-        let y = reader-within q in
         ap (λ (x : Option ℕ). last_block g x) (get_or-set_other lasts (buffer_number g q level) (buffer_number g r l) now None
         (λ same.
-        let readers : r ≡ q = readers-differ r q (omega (arith, same, here, high, x, y)) in
-        let levels : l ≡ level = omega (arith, same, here, high, x, y) in
-        apart (ap (λ (z : Reader). By z l) readers ∙ ap (λ (z : ℕ). By q z) levels)))
+        let levels : l ≡ level = omega (arith, same, here, high, x, reader-within q) in
+        apart (ap (λ (z : Reader). By z l) (readers-differ r q (omega (arith, same, here, high, x, reader-within q))) ∙ ap (λ (z : ℕ). By q z) levels)))
 
 -- and what that one has
 pub own-set : (g : Geometry) (lasts : List (Option ℕ)) (reader : Option Reader) (level : ℕ) (now : Option ℕ) → g.block_exp ≤ level + 2 → buffer_index g reader level < length lasts →
@@ -172,10 +164,7 @@ own-is g lasts (Some q) level high = choose-else (nat_lt (level + 2) g.block_exp
 pub buffer-within : (g : Geometry) (reader : Option Reader) (level : ℕ) → IsOnDevice g level → buffer_index g reader level < 1 + 3 * device_levels g
 buffer-within g None level device = omega arith
 buffer-within g (Some q) level device =
-    let low : level ≤ g.bottom = device.within in
-    let high : g.block_exp ≤ level + 2 = device.whole in
-    let x = reader-within q in
-    omega (arith, low, high, x)
+    omega (arith, device.within, device.whole, reader-within q)
 
 -- what a buffer has after a block was written
 map-forgotten : (block : ℕ) (lasts : List (Option ℕ)) (n : ℕ) → last_in (map (forgotten block) lasts) n ≡ forgotten block (last_in lasts n)

@@ -24,3 +24,5 @@ pub mod Shown
 pub mod Sounding
 pub mod Fronted
 pub mod Searching
+pub mod Views
+pub mod Weaves

@@ -69,9 +69,7 @@ sound-shadow g old new level shadow told tails one stands whole = record {
       (if-told old.told (λ b on e i t.
       let now = shadow_at new.shadows level in
       let q = in-tail (block_cells g) now now.slot i t in
-      let h : i < now.len = q.within in
-      let begin : now.len ≤ i = first-place (block_cells g) i now.len (pow_pos g.block_exp) q.block_is (ap (λ (x : Shadow). x.len % block_cells g) one.is ∙ (whole on).1) in
-      absurd (omega (arith, h, begin))));
+      absurd (omega (arith, q.within, first-place (block_cells g) i now.len (pow_pos g.block_exp) q.block_is (ap (λ (x : Shadow). x.len % block_cells g) one.is ∙ (whole on).1)))));
 }
 
 -- tails in which one was filled
@@ -81,9 +79,7 @@ module _ (g : Geometry) (fits : IsBlock g.block_exp g.bottom) (tails copy : List
 
   holds : width g.format * (block_cells g * (level + 2 - g.block_exp)) ≤ length tails
   holds =
-      let h = tail-holds g tails level device many in
-      let e : width g.format * tail_number g level 0 ≡ width g.format * (block_cells g * (level + 2 - g.block_exp)) = ap (λ (n : ℕ). width g.format * n) (tail-first g level) in
-      omega (arith, h, e)
+      omega (arith, tail-holds g tails level device many, ap (λ (n : ℕ). width g.format * n) (tail-first g level))
 
   pub filled-many : length (splice tails (width g.format * tail_number g level 0) copy) ≡ length tails
   filled-many = let h = tail-holds g tails level device many in length-splice tails (width g.format * tail_number g level 0) copy (omega (arith, h, whole))
@@ -93,10 +89,7 @@ module _ (g : Geometry) (fits : IsBlock g.block_exp g.bottom) (tails copy : List
       ap (λ (n : ℕ). cell_bytes g.format (splice tails n copy) (tail_number g l i)) begin
       ∙ block-stays g.format tails copy (block_cells g) (level + 2 - g.block_exp) (pow_pos g.block_exp) holds whole (tail_number g l i)
       (λ same.
-      let first : (tail_number g l i) / block_cells g ≡ l + 2 - g.block_exp = (tail-block g.block_exp (l + 2 - g.block_exp) i).0 in
-      let x : g.block_exp ≤ l + 2 = on.whole in
-      let y : g.block_exp ≤ level + 2 = device.whole in
-      apart (omega (arith, first, same, x, y)))
+      apart (omega (arith, (tail-block g.block_exp (l + 2 - g.block_exp) i).0, same, on.whole, device.whole)))
 
   pub filled-there : (i : ℕ) → cell_bytes g.format (splice tails (width g.format * tail_number g level 0) copy) (tail_number g level i) ≡ cell_bytes g.format copy (i % block_cells g)
   filled-there i =

@@ -59,10 +59,7 @@ module _ (g : Geometry) (shadows shadows_now : List Shadow) (tails tails_now bef
       (λ i e.
       let x = shadow_at shadows l in
       let q = in-tail (block_cells g) x x.slot i e in
-      let within : i < x.len = q.within in
-      let most : x.len ≤ slot_size l = stands.within in
-      let low : l ≤ g.bottom = on.within in
-      let p : IsPlace (g.bottom + 1) l x.slot i = record { level_in = omega (arith, low); slot_in = stands.slot_in; index_in = omega (arith, within, most) } in
+      let p : IsPlace (g.bottom + 1) l x.slot i = record { level_in = omega (arith, on.within); slot_in = stands.slot_in; index_in = omega (arith, q.within, stands.within) } in
       around.stays l x.slot i on.whole p (inl apart) ∙ saved i e ∙ sym (stay l i on apart))
 
 -- what is saved of all levels, by the one that changed and the others

@@ -17,9 +17,7 @@ use Rattle.cola_run.proofs.Spots.{in-tail}
 
 parts-are : (geometry : Geometry) → 2 ^ (geometry.bottom + 4) ≡ file_blocks geometry * block_cells geometry
 parts-are geometry =
-    let b = geometry.block_fits.fits in
-    let e : (geometry.bottom + 4 - geometry.block_exp) + geometry.block_exp ≡ geometry.bottom + 4 = omega (arith, b) in
-    ap (λ (n : ℕ). 2 ^ n) (sym e) ∙ pow-add 2 (geometry.bottom + 4 - geometry.block_exp) geometry.block_exp
+    ap (λ (n : ℕ). 2 ^ n) (sym (omega (arith, geometry.block_fits.fits))) ∙ pow-add 2 (geometry.bottom + 4 - geometry.block_exp) geometry.block_exp
 
 -- the blocks of a file
 pub blocks-are : (geometry : Geometry) → 2 ^ (geometry.bottom + 4) / block_cells geometry ≡ file_blocks geometry
@@ -65,8 +63,5 @@ new-sound told device counts geometry cache inside = record {
       long = omega (arith, h);
       saved = λ level on e i t.
           let sh = shadow_at (replicate (geometry.bottom + 1) (emptied 1)) level in
-          let q = in-tail (block_cells geometry) sh sh.slot i t in
-          let within : i < sh.len = q.within in
-          let zero : sh.len ≡ 0 = ap (λ (x : Shadow). x.len) (empty-all (geometry.bottom + 1) level) in
-          absurd (omega (arith, within, zero));
+          absurd (omega (arith, (in-tail (block_cells geometry) sh sh.slot i t).within, ap (λ (x : Shadow). x.len) (empty-all (geometry.bottom + 1) level)));
     }

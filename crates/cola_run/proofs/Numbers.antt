@@ -17,21 +17,14 @@ split block n some = record { is = div-add-mod n block; rest = mod-lt n some }
 -- a block that comes before another ends before it
 pub block-before : (block k n : ℕ) → k < n → block * k + block ≤ block * n
 block-before block k n below =
-    let more : block * (k + 1) ≤ block * n = mul-le-mul_left block (let h : k + 1 ≤ n = omega (arith, below) in h) in
-    let e : block * (k + 1) ≡ block * k + block = omega arith in
-    omega (arith, more, e)
+    omega (arith, mul-le-mul_left block (let h : k + 1 ≤ n = omega (arith, below) in h))
 
 -- a cell whose number lies in one of so many blocks ends within them, where a cell has `w` bytes
 pub cell-in_blocks : (w b many n : ℕ) → 0 < b → n / b < many → n * w + w ≤ many * (w * b)
 cell-in_blocks w b many n some below =
     let s = split b n some in
-    let ends = block-before b (n / b) many below in
-    let fits : n + 1 ≤ b * many = (let i = s.is in let r = s.rest in omega (arith, i, r, ends)) in
-    let more : w * (n + 1) ≤ w * (b * many) = mul-le-mul_left w fits in
-    let left : n * w ≡ w * n = mul_comm n w in
-    let right : w * (b * many) ≡ many * (w * b) = sym (mul_assoc w b many) ∙ mul_comm (w * b) many in
-    let next : w * (n + 1) ≡ w * n + w = omega arith in
-    omega (arith, more, left, right, next)
+    let fits : n + 1 ≤ b * many = (let i = s.is in let r = s.rest in omega (arith, i, r, block-before b (n / b) many below)) in
+    omega (arith, mul-le-mul_left w fits, mul_comm n w, sym (mul_assoc w b many) ∙ mul_comm (w * b) many)
 
 -- numbers of different blocks stand on different sides of a block
 pub block-apart : (block k n : ℕ) → 0 < block → n / block ≢ k → (n + 1 ≤ block * k) ⊎ (block * k + block ≤ n)
@@ -55,8 +48,7 @@ block-of block k p within =
 module _ (b l s i : ℕ) (device : b ≤ l + 2) where
   slot-parts : 2 ^ (l + 2) ≡ 2 ^ (l + 2 - b) * 2 ^ b
   slot-parts =
-      let is : (l + 2 - b) + b ≡ l + 2 = omega (arith, device) in
-      subst (λ (n : ℕ). 2 ^ n ≡ 2 ^ (l + 2 - b) * 2 ^ b) is (pow-add 2 (l + 2 - b) b)
+      subst (λ (n : ℕ). 2 ^ n ≡ 2 ^ (l + 2 - b) * 2 ^ b) (omega (arith, device)) (pow-add 2 (l + 2 - b) b)
 
   number-is : number_of l s i ≡ (2 + s) * 2 ^ (l + 2 - b) * 2 ^ b + i
   number-is = ap (λ (n : ℕ). n + i) (ap (λ (n : ℕ). (2 + s) * n) slot-parts ∙ sym (mul_assoc (2 + s) (2 ^ (l + 2 - b)) (2 ^ b)))
@@ -80,18 +72,11 @@ same-block b l s i j device e = block-is b l s i device ∙ ap (λ (n : ℕ). (2
 -- the cell at which a place's block begins
 begin-is : (b l s i : ℕ) → b ≤ l + 2 → number_of l s (2 ^ b * (i / 2 ^ b)) ≡ 2 ^ b * (number_of l s i / 2 ^ b)
 begin-is b l s i device =
-    let number = split (2 ^ b) (number_of l s i) (pow_pos b) in
-    let index = split (2 ^ b) i (pow_pos b) in
-    let e : 2 ^ b * (number_of l s i / 2 ^ b) + number_of l s i % 2 ^ b ≡ number_of l s i = number.is in
-    let f : 2 ^ b * (i / 2 ^ b) + i % 2 ^ b ≡ i = index.is in
-    let g : number_of l s i % 2 ^ b ≡ i % 2 ^ b = place-is b l s i device in
-    omega (arith, e, f, g)
+    omega (arith, (split (2 ^ b) (number_of l s i) (pow_pos b)).is, (split (2 ^ b) i (pow_pos b)).is, place-is b l s i device)
 
 begin-place : (levels b l s i : ℕ) → IsPlace levels l s i → IsPlace levels l s (2 ^ b * (i / 2 ^ b))
 begin-place levels b l s i p =
-    let f = (split (2 ^ b) i (pow_pos b)).is in
-    let h : i < slot_size l = p.index_in in
-    record { level_in = p.level_in; slot_in = p.slot_in; index_in = omega (arith, f, h) }
+    record { level_in = p.level_in; slot_in = p.slot_in; index_in = omega (arith, (split (2 ^ b) i (pow_pos b)).is, p.index_in) }
 
 -- places whose numbers lie in one block are in one level, one slot, and one block of that
 pub one-block : (bottom b l s i k t j : ℕ) → b ≤ l + 2 → b ≤ k + 2 → IsPlace (bottom + 1) l s i → IsPlace (bottom + 1) k t j → number_of l s i / 2 ^ b ≡ number_of k t j / 2 ^ b →
@@ -113,22 +98,17 @@ one-block bottom b l s i k t j first second p q e =
 -- a block of a level on the device lies behind the two of the front, and within the file
 pub block-behind : (b l s i : ℕ) → b ≤ l + 2 → 2 ≤ number_of l s i / 2 ^ b
 block-behind b l s i device =
-    let m : 0 < 2 ^ (l + 2 - b) = pow_pos (l + 2 - b) in
-    let e = block-is b l s i device in
     let more : 2 * 2 ^ (l + 2 - b) ≤ (2 + s) * 2 ^ (l + 2 - b) = let x : (2 + s) * 2 ^ (l + 2 - b) ≡ 2 * 2 ^ (l + 2 - b) + s * 2 ^ (l + 2 - b) = omega arith in omega (arith, x) in
-    omega (arith, m, e, more)
+    omega (arith, pow_pos (l + 2 - b), block-is b l s i device, more)
 
 file-parts : (bottom b : ℕ) → b ≤ bottom + 2 → 2 ^ (bottom + 4) ≡ 2 ^ (bottom + 4 - b) * 2 ^ b
 file-parts bottom b fits =
-    let is : (bottom + 4 - b) + b ≡ bottom + 4 = omega (arith, fits) in
-    subst (λ (n : ℕ). 2 ^ n ≡ 2 ^ (bottom + 4 - b) * 2 ^ b) is (pow-add 2 (bottom + 4 - b) b)
+    subst (λ (n : ℕ). 2 ^ n ≡ 2 ^ (bottom + 4 - b) * 2 ^ b) (omega (arith, fits)) (pow-add 2 (bottom + 4 - b) b)
 
 -- a block that begins within the file ends within it
 pub block-ends : (bottom b k : ℕ) → b ≤ bottom + 2 → k < 2 ^ (bottom + 4 - b) → 2 ^ b * k + 2 ^ b ≤ 2 ^ (bottom + 4)
 block-ends bottom b k fits within =
-    let h : 2 ^ b * k + 2 ^ b ≤ 2 ^ b * 2 ^ (bottom + 4 - b) = block-before (2 ^ b) k (2 ^ (bottom + 4 - b)) within in
-    let e : 2 ^ (bottom + 4) ≡ 2 ^ b * 2 ^ (bottom + 4 - b) = file-parts bottom b fits ∙ mul_comm (2 ^ (bottom + 4 - b)) (2 ^ b) in
-    omega (arith, h, e)
+    omega (arith, block-before (2 ^ b) k (2 ^ (bottom + 4 - b)) within, file-parts bottom b fits ∙ mul_comm (2 ^ (bottom + 4 - b)) (2 ^ b))
 
 -- the block of a cell of the file is one of the file
 pub number_in_file : (bottom b n : ℕ) → b ≤ bottom + 2 → n < 2 ^ (bottom + 4) → n / 2 ^ b < 2 ^ (bottom + 4 - b)
@@ -155,41 +135,29 @@ pub record IsFull (block n : ℕ) : Type 0 where
 pub next-split : (block n : ℕ) → 0 < block → IsMore block n ⊎ IsFull block n
 next-split block n some =
     let s = split block n some in
-    let i = s.is in
-    let r = s.rest in
     elim (cases_lt (n % block + 1) block) [
       | inl more ↦
-          let e : n + 1 ≡ block * (n / block) + (n % block + 1) = omega (arith, i) in
+          let e : n + 1 ≡ block * (n / block) + (n % block + 1) = omega (arith, s.is) in
           let (q, p) = block-of block (n / block) (n % block + 1) more in
           inl (record { block_is = ap (λ (x : ℕ). x / block) e ∙ q; place_is = ap (λ (x : ℕ). x % block) e ∙ p; within = more })
       | inr full ↦
-          let e : n + 1 ≡ block * (n / block + 1) + 0 = (let m : block * (n / block + 1) ≡ block * (n / block) + block = omega arith in omega (arith, i, r, full, m)) in
+          let e : n + 1 ≡ block * (n / block + 1) + 0 = (let m : block * (n / block + 1) ≡ block * (n / block) + block = omega arith in omega (arith, s.is, s.rest, full, m)) in
           let (q, p) = block-of block (n / block + 1) 0 some in
-          inr (record { block_is = ap (λ (x : ℕ). x / block) e ∙ q; place_is = ap (λ (x : ℕ). x % block) e ∙ p; full = omega (arith, r, full) })
+          inr (record { block_is = ap (λ (x : ℕ). x / block) e ∙ q; place_is = ap (λ (x : ℕ). x % block) e ∙ p; full = omega (arith, s.rest, full) })
     ]
 
 -- numbers of one block at one place there are one
 pub one-place : (block i n : ℕ) → 0 < block → i / block ≡ n / block → i % block ≡ n % block → i ≡ n
 one-place block i n some blocks places =
-    let x = (split block i some).is in
-    let y = (split block n some).is in
-    let m : block * (i / block) ≡ block * (n / block) = ap (λ (k : ℕ). block * k) blocks in
-    omega (arith, x, y, m, places)
+    omega (arith, (split block i some).is, (split block n some).is, ap (λ (k : ℕ). block * k) blocks, places)
 
 -- the last of its block
 pub last-place : (block i n : ℕ) → 0 < block → i / block ≡ n / block → n % block + 1 ≡ block → i ≤ n
 last-place block i n some blocks full =
     let s = split block i some in
-    let x = s.is in
-    let r = s.rest in
-    let y = (split block n some).is in
-    let m : block * (i / block) ≡ block * (n / block) = ap (λ (k : ℕ). block * k) blocks in
-    omega (arith, x, y, m, r, full)
+    omega (arith, s.is, (split block n some).is, ap (λ (k : ℕ). block * k) blocks, s.rest, full)
 
 -- nothing of a block lies before its begin
 pub first-place : (block i n : ℕ) → 0 < block → i / block ≡ n / block → n % block ≡ 0 → n ≤ i
 first-place block i n some blocks begin =
-    let x = (split block i some).is in
-    let y = (split block n some).is in
-    let m : block * (i / block) ≡ block * (n / block) = ap (λ (k : ℕ). block * k) blocks in
-    omega (arith, x, y, m, begin)
+    omega (arith, (split block i some).is, (split block n some).is, ap (λ (k : ℕ). block * k) blocks, begin)

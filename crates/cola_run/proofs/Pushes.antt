@@ -21,7 +21,7 @@ use Rattle.cola_layout.proofs.Powers.{power-le}
 use Rattle.cola_run.specs.Cells.{IsOnDevice, Lower, block_cells, block_bytes, file_bytes, block_number, tail_number, device_cell, Cells, known_spot, told_spot, spots_of, IsShadow, IsShape, IsSaved, IsBacked, cells_by}
 use Rattle.cola_run.specs.Parts.{tail_of, fills, TailPushed, MetFault, IsPushed}
 use Rattle.cola_run.proofs.Numbers.{IsMore, IsFull, next-split, one-place, last-place, first-place}
-use Rattle.cola_run.proofs.Spots.{both-so, both-same, both-with, both-second, with-told, IsInTail, in-tail, device-in, device-out, device-is, spot-there, spot-device, spots-stay, known-told}
+use Rattle.cola_run.proofs.Spots.{both-all, both-so, both-same, both-with, both-second, with-told, IsInTail, in-tail, device-in, device-out, device-is, spot-there, spot-device, spots-stay, known-told}
 use Rattle.cola_run.proofs.Steps.{tail_many, tail-cell, put-many, put-there, put-stays, written-there}
 use Rattle.cola_run.proofs.Lowers.{IsAround, around-same, around-written, TailsStay, other-cell, backed-by, shape-by}
 
@@ -47,8 +47,7 @@ way-by g tails b c level shadow (Ok value) true e fault w =
     v.others_stay ∙ ap (λ (left : List ℕ). splice b (block_number g level shadow.slot shadow.len * block_bytes g) left) v.exact) refl
 way-by g tails b c level shadow (Ok value) false e fault w = More e (some-same c b w.0) refl
 way-by g tails b c level shadow (Err Device) true e fault w =
-    let v : WroteSome (Err Device) (block_number g level shadow.slot shadow.len * block_bytes g) (tail_of g tails level) b c = w in
-    Refused e v.left v.as_many v.others_stay refl
+    Refused e w.left w.as_many w.others_stay refl
 way-by g tails b c level shadow (Err Device) false e fault w = absurd (false≢true w.1)
 way-by g tails b c level shadow (Err (Overfull l)) t e fault w = absurd fault
 
@@ -108,10 +107,9 @@ module _ (g : Geometry) (front : FrontCells) (old new : Lower) (level : ℕ) (ce
   out-full s i full d apart = elim (cases_eq s shadow.slot) [
     | inr other ↦ inl other
     | inl same ↦ inr (λ e.
-        let most : i ≤ shadow.len = last-place (block_cells g) i shadow.len some e full.full in
         elim apart [
           | inl h ↦ h same
-          | inr h ↦ d (record { slot_is = same; block_is = e; within = omega (arith, most, h) })
+          | inr h ↦ d (record { slot_is = same; block_is = e; within = omega (arith, last-place (block_cells g) i shadow.len some e full.full, h) })
         ])
   ]
 
@@ -125,10 +123,9 @@ module _ (g : Geometry) (front : FrontCells) (old new : Lower) (level : ℕ) (ce
   this-cell : (b c : List ℕ) (s i : ℕ) → file_bytes g ≤ length b → Way g new.tails b c level shadow now → IsPlace (g.bottom + 1) level s i → (s ≢ shadow.slot) ⊎ (i ≢ shadow.len) →
       device_cell g new.shadows new.tails c level s i ≡ device_cell g old.shadows old.tails b level s i
   this-cell b c s i holds (More e same is) p apart =
-      let more = more-of e in
       let slots : now.slot ≡ shadow.slot = ap (λ (x : Shadow). x.slot) is in
       let lens : now.len ≡ shadow.len + 1 = ap (λ (x : Shadow). x.len) is in
-      let blocks : now.len / block_cells g ≡ shadow.len / block_cells g = ap (λ (n : ℕ). n / block_cells g) lens ∙ more.block_is in
+      let blocks : now.len / block_cells g ≡ shadow.len / block_cells g = ap (λ (n : ℕ). n / block_cells g) lens ∙ (more-of e).block_is in
       device-is g old.shadows old.tails b level s i (device_cell g new.shadows new.tails c level s i)
       (λ q.
       let h : i < shadow.len = q.within in
@@ -137,10 +134,9 @@ module _ (g : Geometry) (front : FrontCells) (old new : Lower) (level : ℕ) (ce
       (λ d.
       device-out g new.shadows new.tails c level s i
       (λ q.
-      let h : i < now.len = q.within in
       elim apart [
         | inl x ↦ x (q.slot_is ∙ slots)
-        | inr x ↦ d (record { slot_is = q.slot_is ∙ slots; block_is = q.block_is ∙ blocks; within = omega (arith, h, lens, x) })
+        | inr x ↦ d (record { slot_is = q.slot_is ∙ slots; block_is = q.block_is ∙ blocks; within = omega (arith, q.within, lens, x) })
       ])
       ∙ ap (λ (xs : List ℕ). cell_bytes g.format xs (number_of level s i)) same)
   this-cell b c s i holds (Refused e left many at is) p apart =
@@ -154,8 +150,7 @@ module _ (g : Geometry) (front : FrontCells) (old new : Lower) (level : ℕ) (ce
       (λ d.
       device-out g new.shadows new.tails c level s i
       (λ q.
-      let h : i < now.len = q.within in
-      d (record { slot_is = q.slot_is ∙ slots; block_is = q.block_is ∙ ap (λ (n : ℕ). n / block_cells g) lens; within = omega (arith, h, lens) }))
+      d (record { slot_is = q.slot_is ∙ slots; block_is = q.block_is ∙ ap (λ (n : ℕ). n / block_cells g) lens; within = omega (arith, q.within, lens) }))
       ∙ (around b c now holds (Refused e left many at is)).stays level s i device.whole p (inr (out-full s i (full-of e) d apart)))
   this-cell b c s i holds (Full e at is) p apart =
       let full = full-of e in
@@ -167,11 +162,10 @@ module _ (g : Geometry) (front : FrontCells) (old new : Lower) (level : ℕ) (ce
       omega (arith, h, begin) in
       device-is g old.shadows old.tails b level s i (device_cell g new.shadows new.tails c level s i)
       (λ q.
-      let h : i < shadow.len = q.within in
       device-out g new.shadows new.tails c level s i none
       ∙ ap (λ (x : ℕ). cell_bytes g.format c (number_of level x i)) q.slot_is
       ∙ there b c holds at i q.block_is
-      ∙ in-old i (record { slot_is = refl; block_is = q.block_is; within = h }))
+      ∙ in-old i (record { slot_is = refl; block_is = q.block_is; within = q.within }))
       (λ d.
       device-out g new.shadows new.tails c level s i none
       ∙ (around b c now holds (Full e at is)).stays level s i device.whole p (inr (out-full s i full d apart)))
@@ -186,23 +180,19 @@ module _ (g : Geometry) (front : FrontCells) (old new : Lower) (level : ℕ) (ce
   -- the cell at the shadow's end
   end-cell : (b c : List ℕ) → file_bytes g ≤ length b → (value : T) → result ≡ Ok value → Way g new.tails b c level shadow now → device_cell g new.shadows new.tails c level shadow.slot shadow.len ≡ spelling g.format cell
   end-cell b c holds value ok (More e same is) =
-      let more = more-of e in
       let slots : now.slot ≡ shadow.slot = ap (λ (x : Shadow). x.slot) is in
       let lens : now.len ≡ shadow.len + 1 = ap (λ (x : Shadow). x.len) is in
       device-in g new.shadows new.tails c level shadow.slot shadow.len
-      (record { slot_is = sym slots; block_is = sym (ap (λ (n : ℕ). n / block_cells g) lens ∙ more.block_is); within = omega (arith, lens) })
+      (record { slot_is = sym slots; block_is = sym (ap (λ (n : ℕ). n / block_cells g) lens ∙ (more-of e).block_is); within = omega (arith, lens) })
       ∙ tail-there
   end-cell b c holds value ok (Refused e left many at is) =
       let lens : now.len ≡ shadow.len = ap (λ (x : Shadow). x.len) is in
-      let longer : now.len ≡ shadow.len + 1 = ap (λ (x : Shadow). x.len) (pushed.longer.shadow.is ∙ ap (λ (r : Result T PushFault). after_push (block_cells g) shadow r) ok) in
-      absurd (omega (arith, lens, longer))
+      absurd (omega (arith, lens, ap (λ (x : Shadow). x.len) (pushed.longer.shadow.is ∙ ap (λ (r : Result T PushFault). after_push (block_cells g) shadow r) ok)))
   end-cell b c holds value ok (Full e at is) =
-      let full = full-of e in
       let lens : now.len ≡ shadow.len + 1 = ap (λ (x : Shadow). x.len) is in
       device-out g new.shadows new.tails c level shadow.slot shadow.len
       (λ q.
-      let begin : now.len ≤ shadow.len = first-place (block_cells g) shadow.len now.len some q.block_is (ap (λ (n : ℕ). n % block_cells g) lens ∙ full.place_is) in
-      omega (arith, begin, lens))
+      omega (arith, first-place (block_cells g) shadow.len now.len some q.block_is (ap (λ (n : ℕ). n % block_cells g) lens ∙ (full-of e).place_is), lens))
       ∙ ap (λ (xs : List ℕ). cell_bytes g.format xs (number_of level shadow.slot shadow.len)) at
       ∙ written-there g shape.block level shadow.slot shadow.len device.whole place b (tail_of g new.tails level) holds whole shadow.len refl
       ∙ tail-cell g new.tails level shadow.len
@@ -251,19 +241,16 @@ module _ (g : Geometry) (front : FrontCells) (old new : Lower) (level : ℕ) (ce
   -- what is told of the shadow's end is the cell
   pub push-end : IfSome old.told (IsBacked g old.shadows old.tails) → (value : T) → result ≡ Ok value →
       spots_of (cells_by g front new) level shadow.slot shadow.len ≡ with_cell (spots_of (cells_by g front old) level shadow.slot shadow.len) (as_cell cell)
-  push-end backed value ok = by-case old.told new.told (ways backed)
-    where
-      by-case : (x y : Option (List ℕ)) → Both x y (λ b c. IsBacked g old.shadows old.tails b × Way g new.tails b c level shadow now)
-          → told_spot after y level shadow.slot shadow.len ≡ with_cell (told_spot before x level shadow.slot shadow.len) (as_cell cell)
-      by-case None None w = refl
-      by-case None (Some c) w = absurd w
-      by-case (Some b) None w = absurd w
-      by-case (Some b) (Some c) w =
-          spot-there after c level shadow.slot shadow.len place
-          ∙ spot-device after c level shadow.slot shadow.len device.whole
-          ∙ ap (λ (x : List ℕ). spot_of_bytes g.format x) (end-cell b c w.0.long value ok w.1)
-          ∙ spot_told g.format cell (spelling g.format cell) pushed.spelled
-          ∙ with-told (known_spot before b level shadow.slot shadow.len) (as_cell cell) (known-told before b level shadow.slot shadow.len)
+  push-end backed value ok =
+      both-all (λ b c. IsBacked g old.shadows old.tails b × Way g new.tails b c level shadow now)
+      (λ x y. told_spot after y level shadow.slot shadow.len ≡ with_cell (told_spot before x level shadow.slot shadow.len) (as_cell cell)) refl
+      (λ b c w.
+      spot-there after c level shadow.slot shadow.len place
+      ∙ spot-device after c level shadow.slot shadow.len device.whole
+      ∙ ap (λ (x : List ℕ). spot_of_bytes g.format x) (end-cell b c w.0.long value ok w.1)
+      ∙ spot_told g.format cell (spelling g.format cell) pushed.spelled
+      ∙ with-told (known_spot before b level shadow.slot shadow.len) (as_cell cell) (known-told before b level shadow.slot shadow.len))
+      old.told new.told (ways backed)
 
   -- the shape stays
   after-stands : IsShadow level (after_push (block_cells g) shadow result)
@@ -281,9 +268,7 @@ module _ (g : Geometry) (front : FrontCells) (old new : Lower) (level : ℕ) (ce
           → (after_push (block_cells g) shadow r).len % block_cells g ≢ 0
       by-result (Ok value) t e fault w is = eqb-false ((shadow.len + 1) % block_cells g) 0 is
       by-result (Err Device) true e fault w is =
-          let f = (full-of e).full in
-          let eight : 2 ^ 3 ≤ block_cells g = power-le 3 g.block_exp shape.block.group in
-          λ z. omega (arith, f, eight, z)
+          λ z. omega (arith, (full-of e).full, power-le 3 g.block_exp shape.block.group, z)
       by-result (Err Device) false e fault w is = absurd (false≢true w.1)
       by-result (Err (Overfull l)) t e fault w is = absurd fault
 
@@ -298,9 +283,7 @@ module _ (g : Geometry) (front : FrontCells) (old new : Lower) (level : ℕ) (ce
       λ i t.
       let q = in-tail (block_cells g) now now.slot i t in
       let lens : now.len ≡ shadow.len + 1 = ap (λ (x : Shadow). x.len) is in
-      let h : i < now.len = q.within in
-      let begin : now.len ≤ i = first-place (block_cells g) i now.len some q.block_is (ap (λ (n : ℕ). n % block_cells g) lens ∙ (full-of e).place_is) in
-      absurd (omega (arith, h, begin))
+      absurd (omega (arith, q.within, first-place (block_cells g) i now.len some q.block_is (ap (λ (n : ℕ). n % block_cells g) lens ∙ (full-of e).place_is)))
 
   pub push-backed : IfSome old.told (IsBacked g old.shadows old.tails) → IfSome new.told (IsBacked g new.shadows new.tails)
   push-backed backed =

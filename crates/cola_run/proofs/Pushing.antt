@@ -1,6 +1,6 @@
 -- That pushes to levels on the device meet the trait.
 use Rattle.std.proofs.Common.{◌≡◌, ◌≢◌, ℕ, ◌+◌, ◌*◌, ◌%◌, ◌<◌, ◌≤◌, Bool, true, false, List, length, Option, option_map, Result, Ok, Err, refl, sym, ap, subst, ◌∙◌, arith}
-use Rattle.std.proofs.lemmas.Bool.{eqb-true}
+use Rattle.std.proofs.lemmas.Bool.{eqb-true, false_from_ne_true}
 use Rattle.cola_outside.specs.Told.{Both}
 use Rattle.cola_cell.specs.declared.cell.Cell.{Cell}
 use Rattle.cola_cell.specs.declared.fault.PushFault.{PushFault}
@@ -43,9 +43,7 @@ module _ {D K T : Type 0} (bytes : D → Option (List ℕ)) (counts : D → Coun
 
   place : IsPlace (g.bottom + 1) level shadow.slot shadow.len
   place =
-      let low : level ≤ g.bottom = device.within in
-      let stands = shape.shadows_fit level low in
-      record { level_in = omega (arith, low); slot_in = stands.slot_in; index_in = room }
+      record { level_in = omega (arith, device.within); slot_in = (shape.shadows_fit level device.within).slot_in; index_in = room }
 
   told-both : Both (bytes store.buffers.cache.device) (bytes now.buffers.cache.device) (λ _ _. Unit {0})
   told-both = by-test (fills g shadow.len) pushed.longer.device
@@ -104,12 +102,5 @@ module _ {D K T : Type 0} (bytes : D → Option (List ℕ)) (counts : D → Coun
     writes = spends-writes counts kept store now level shadow.slot shadow.len (fills g shadow.len) result (push_ticks result) shape.block device.whole (λ _. place) writing same ticked;
     only_full = λ part.
         spends-nothing counts kept store now level shadow.slot shadow.len (fills g shadow.len) result (push_ticks result) shape.block device.whole (λ _. place) writing same ticked
-        (not-full (λ e. part (ap (λ (n : ℕ). (shadow.len + 1) % n) (span-is g shape.block) ∙ e)));
+        (false_from_ne_true (fills g shadow.len) (λ e. part (ap (λ (n : ℕ). (shadow.len + 1) % n) (span-is g shape.block) ∙ eqb-true ((shadow.len + 1) % block_cells g) 0 e)));
   }
-    where
-      not-full : ((shadow.len + 1) % block_cells g ≢ 0) → fills g shadow.len ≡ false
-      not-full apart = by-test (fills g shadow.len) refl
-        where
-          by-test : (t : Bool) → fills g shadow.len ≡ t → t ≡ false
-          by-test true e = absurd (apart (eqb-true ((shadow.len + 1) % block_cells g) 0 e))
-          by-test false e = refl

@@ -33,9 +33,7 @@ use Rattle.cola_run.proofs.Spots.{on-ok, IsInTail, device-in, device-out, spot-t
 -- the cells of a block
 pub span-is : (g : Geometry) → IsBlock g.block_exp g.bottom → 8 * 2 ^ (g.block_exp - 3) ≡ block_cells g
 span-is g fits =
-    let group : 3 ≤ g.block_exp = fits.group in
-    let e : 3 + (g.block_exp - 3) ≡ g.block_exp = omega (arith, group) in
-    sym (pow-add 2 3 (g.block_exp - 3)) ∙ ap (λ (n : ℕ). 2 ^ n) e
+    sym (pow-add 2 3 (g.block_exp - 3)) ∙ ap (λ (n : ℕ). 2 ^ n) (omega (arith, fits.group))
 
 -- what a place tells, where something is told
 pub tells-same : (x y : Spot) → x ≡ y → Tells x y
@@ -145,9 +143,7 @@ module _ {D : Type 0} (bytes : D → Option (List ℕ)) (counts : D → Counts) 
 
   large : slot_size l < span (held_of bytes store) → ⊥
   large h =
-      let e : span (held_of bytes store) ≡ block_cells g = span-is g fits in
-      let more : 2 ^ g.block_exp ≤ 2 ^ (l + 2) = power-le g.block_exp (l + 2) device.whole in
-      omega (arith, h, e, more)
+      omega (arith, h, span-is g fits, power-le g.block_exp (l + 2) device.whole)
 
   abbrev held-by : Made → Option (List ℕ) → Held
   held-by made told = record (held_of bytes store) { fixed = record (held_of bytes store).fixed { made = record { reads = made.reads; faults = made.faults } }; spots = spots_of (cells_of told store) }

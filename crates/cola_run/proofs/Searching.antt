@@ -72,8 +72,7 @@ module _ {D S P : Type 0} (bytes : D → Option (List ℕ)) (counts : D → Coun
       on-device high e (Ok cell) same = subst Says same (says (λ d. let x : Ok cell ≡ Err Device = sym same ∙ d in cc)) (counts store.buffers.cache.device).faults (counts now.cache.device).faults
       on-device high e (Err (BadCell number)) same = subst Says same (says (λ d. let x : Err (BadCell number) ≡ Err Device = sym same ∙ d in cc)) (counts store.buffers.cache.device).faults (counts now.cache.device).faults
       on-device high e (Err Device) same =
-          let t = subst (λ (x : Result Cell ReadFault). SearchTurns counts lends store.geometry store.buffers now reach x) same turns high e in
-          t.cause
+          (subst (λ (x : Result Cell ReadFault). SearchTurns counts lends store.geometry store.buffers now reach x) same turns high e).cause
 
       by-lends : store.geometry.block_exp ≤ reach.run.level + 2 → (b : Bool) → lends ≡ b →
           Reads (state_of bytes counts store) (state_of bytes counts (record store { buffers = now; ticked = ticked })) Search reach.run.level reach.run.slot reach.from answer
@@ -118,7 +117,6 @@ module _ {D S P : Type 0} (bytes : D → Option (List ℕ)) (counts : D → Coun
       Scans sought (state_of bytes counts store) (state_of bytes counts (record store { buffers = now; ticked = (store.ticked + ticks) % 2 ^ 64 })) reach before after probe from to answer
   scans-all (Ok accessed) ticks from to e there turns calm steps =
       let ran = there (λ d. cc) in
-      let some = ran.1 in
       let cell = standing store.geometry.format (cell_bytes_at store.geometry.format 0 ran.0.bytes) in
       inr (record {
         bytes = ran.0.bytes;
@@ -129,10 +127,10 @@ module _ {D S P : Type 0} (bytes : D → Option (List ℕ)) (counts : D → Coun
         first = reads-first (Ok cell) (store.ticked + 1) (omega arith) (turns cell) (λ has. ((calm has).0, λ d. cc)) (λ _. says-given ran.0 ran.1);
         held_is = refl;
         more = accessed - 1;
-        ticks_are = omega (arith, some);
+        ticks_are = omega (arith, ran.1);
         others = record {
-          steps_are = omega (arith, some, e, steps);
-          ticked_are = omega (arith, some, e);
+          steps_are = omega (arith, ran.1, e, steps);
+          ticked_are = omega (arith, ran.1, e);
           faults_are = refl;
           turned_is = refl;
           written_is = refl;

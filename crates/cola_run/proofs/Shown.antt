@@ -1,10 +1,8 @@
 -- The bytes of runs, where they lie, show the cells of a store.
-use Rattle.std.proofs.Common.{eq-eqb}
-use Rattle.std.proofs.Common.{◌≡◌, inl, inr, ℕ, ◌+◌, ◌-◌, ◌*◌, ◌%◌, ◌≤◌, ◌<◌, ◌==◌, min, ◌||◌, not, Bool, true, false, nat_le, nat_lt, List, length, take, drop, Option, None, Some, IfSome, refl, ap, sym, subst, ◌∙◌, arith}
-use Rattle.std.proofs.Math.Nat.{mul_comm, mod-lt}
+use Rattle.std.proofs.Common.{eq-eqb, ◌≡◌, inl, inr, ℕ, ◌+◌, ◌-◌, ◌*◌, ◌%◌, ◌≤◌, ◌<◌, ◌==◌, min, ◌||◌, not, Bool, true, false, nat_le, nat_lt, List, length, take, drop, Option, None, Some, IfSome, refl, ap, sym, subst, ◌∙◌, arith}
+use Rattle.std.proofs.Math.Nat.{mul-le-mul_left, mul_comm, mod-lt}
 use Rattle.std.proofs.lemmas.Nat.{pow_pos}
 use Rattle.cola_cell.specs.declared.format.Format.{Format}
-use Rattle.cola_cell.specs.declared.format.Format.TheVariants.{One, Two}
 use Rattle.cola_cell.specs.declared.sink.Shadow.{Shadow}
 use Rattle.cola_cell.specs.declared.cell.Cell.{Cell}
 use Rattle.cola_cell.specs.Decoded.{decoded, spot_of_bytes}
@@ -19,9 +17,8 @@ use Rattle.cola_layout.specs.declared.geometry.Geometry.{Geometry}
 use Rattle.cola_run.specs.Cells.{Cells, IsBacked, block_bytes, block_cells, block_number, device_cell, is_in_tail, told_spot}
 use Rattle.cola_run.specs.Store.{Store, IsStore, held_of, cells_of}
 use Rattle.cola_run.specs.Weaving.{IsBelow, IsInFront, IsFound, IsRunHere, ahead, together, is_at_hand}
-use Rattle.std.proofs.lemmas.Bool.{eqb-true, true≢false, cases_lt, le-ltb}
+use Rattle.std.proofs.lemmas.Bool.{lt-leb, eqb-true, true≢false, cases_lt, le-ltb}
 use Rattle.cola_run.proofs.Reading.{tells-by, tells-same}
-use Rattle.std.proofs.lemmas.Bool.Decides.{leb_tells}
 use Rattle.cola_run.proofs.Bytes.{cell-part, block-from}
 use Rattle.cola_run.proofs.Numbers.{split, place-is}
 use Rattle.cola_run.proofs.Spots.{device-is, spot-there, spot-device, spot-front, tail-is, if-told}
@@ -31,34 +28,23 @@ use Rattle.cola_cell.specs.Windows.{cell_bytes_at, IsRunIn, IsShown}
 -- the bytes of a cell of a window
 window_cell : (f : Format) (bytes window : List ℕ) (m many n : ℕ) → length window ≡ many * width f → window ≡ part bytes (width f * m) (length window) → n < many → cell_bytes_at f n window ≡ cell_bytes f bytes (m + n)
 window_cell f bytes window m many n size is below =
-    let e : length window ≡ width f * many = size ∙ mul_comm many (width f) in
     ap (λ (at : ℕ). take (width f) (drop at window)) (mul_comm n (width f))
-    ∙ ap (λ (xs : List ℕ). cell_bytes f xs n) (is ∙ ap (λ (x : ℕ). part bytes (width f * m) x) e)
+    ∙ ap (λ (xs : List ℕ). cell_bytes f xs n) (is ∙ ap (λ (x : ℕ). part bytes (width f * m) x) (size ∙ mul_comm many (width f)))
     ∙ cell-part f bytes m many n below
 
 -- the cells in the block of the first are a part of it
 block_size : (f : Format) (copy found : List ℕ) (b at count : ℕ) → length copy ≡ width f * b → at + count ≤ b → found ≡ part copy (at * width f) (count * width f) → length found ≡ count * width f
-block_size One copy found b at count whole inside is = ap length is ∙ length-part copy (at * 64) (count * 64) (omega (arith, whole, inside))
-block_size Two copy found b at count whole inside is = ap length is ∙ length-part copy (at * 128) (count * 128) (omega (arith, whole, inside))
+block_size f copy found b at count whole inside is = ap length is ∙ length-part copy (at * width f) (count * width f) (omega (arith, whole, mul-le-mul_left (width f) inside))
 
 block_gives : (f : Format) (told : Option (List ℕ)) (copy found : List ℕ) (b at count block number : ℕ) → length copy ≡ width f * b → at + count ≤ b → b * block + at ≡ number → found ≡ part copy (at * width f) (count * width f) →
     length found ≡ count * width f → Gives told (block * (width f * b)) copy → Gives told (width f * number) found
 block_gives f None copy found b at count block number whole inside is here size given = tt
 block_gives f (Some bytes) copy found b at count block number whole inside is here size given =
     let begin : block * (width f * b) ≡ width f * (b * block) = block-from f b block in
-    let within : at * width f + count * width f ≤ width f * b = by_format f in
-    let sum : width f * (b * block) + at * width f ≡ width f * number = sums f in
+    let sum : width f * (b * block) + at * width f ≡ width f * number = omega (arith, ap (λ (n : ℕ). width f * n) is) in
     here ∙ ap (λ (xs : List ℕ). part xs (at * width f) (count * width f)) (given ∙ ap (λ (n : ℕ). part bytes (block * (width f * b)) n) whole ∙ ap (λ (n : ℕ). part bytes n (width f * b)) begin)
-    ∙ part-part bytes (width f * (b * block)) (width f * b) (at * width f) (count * width f) within
+    ∙ part-part bytes (width f * (b * block)) (width f * b) (at * width f) (count * width f) (omega (arith, mul-le-mul_left (width f) inside))
     ∙ ap (λ (n : ℕ). part bytes n (count * width f)) sum ∙ ap (λ (n : ℕ). part bytes (width f * number) n) (sym size)
-  where
-    by_format : (f : Format) → at * width f + count * width f ≤ width f * b
-    by_format One = omega (arith, inside)
-    by_format Two = omega (arith, inside)
-
-    sums : (f : Format) → width f * (b * block) + at * width f ≡ width f * number
-    sums One = omega (arith, is)
-    sums Two = omega (arith, is)
 
 -- the bytes of cells in the block that a buffer holds are the device's
 pub block_found : (told : Option (List ℕ)) (g : Geometry) (reach : Reach) (copy found : List ℕ) (count : ℕ) → g.block_exp ≤ reach.run.level + 2 → count ≡ min (ahead reach) (block_cells g - reach.from % block_cells g) →
@@ -67,8 +53,7 @@ pub block_found : (told : Option (List ℕ)) (g : Geometry) (reach : Reach) (cop
 block_found told g reach copy found count low many whole given is =
     let b = block_cells g in
     let at = reach.from % b in
-    let rest : at < b = mod-lt reach.from (pow_pos g.block_exp) in
-    let inside : at + count ≤ b = omega (arith, many, rest) in
+    let inside : at + count ≤ b = omega (arith, many, mod-lt reach.from (pow_pos g.block_exp)) in
     let number = split b (number_of reach.run.level reach.run.slot reach.from) (pow_pos g.block_exp) in
     let place : number_of reach.run.level reach.run.slot reach.from % b ≡ at = place-is g.block_exp reach.run.level reach.run.slot reach.from low in
     let sum : b * block_number g reach.run.level reach.run.slot reach.from + at ≡ number_of reach.run.level reach.run.slot reach.from =
@@ -107,10 +92,9 @@ below_shows cells lends (Some bytes) reach window last n e backed found there wh
     ap (λ (x : ℕ). cell_bytes g.format bytes (number_of l x i)) slot ∙ kept)
     (λ d. refl) in
     let window_is : cell_bytes_at g.format n window ≡ cell_bytes g.format bytes (number_of l s reach.from + n) = window_cell g.format bytes window (number_of l s reach.from) (together lends g reach) n found.size found.gives below in
-    let number : number_of l s reach.from + n ≡ number_of l s i = omega arith in
     tells-same (told_spot cells (Some bytes) l s i) (spot_of_bytes g.format (cell_bytes_at g.format n window))
     (spot-there cells bytes l s i place ∙ spot-device cells bytes l s i whole
-    ∙ ap (λ (x : List ℕ). spot_of_bytes g.format x) (sym (window_is ∙ ap (λ (x : ℕ). cell_bytes g.format bytes x) number ∙ same)))
+    ∙ ap (λ (x : List ℕ). spot_of_bytes g.format x) (sym (window_is ∙ ap (λ (x : ℕ). cell_bytes g.format bytes x) (omega arith) ∙ same)))
 
 -- the parts of the test whether a run is at hand
 by_test : (a b t s : Bool) → (a || (b || (not t || s))) ≡ true → a ≡ false → b ≡ false → t ≡ true → s ≡ true
@@ -119,14 +103,11 @@ by_test false true t s e f h z = absurd (true≢false h)
 by_test false false true s e f h z = e
 by_test false false false s e f h z = absurd (true≢false (sym z))
 
-least_not : (a b : ℕ) → b < a → nat_le a b ≡ false
-least_not a b h = elim (leb_tells a b) [ inl e ↦ let l : a ≤ b = e.1 in absurd (omega (arith, h, l)) | inr e ↦ e.0 ]
-
 pub at_hand : (g : Geometry) (shadows : List Shadow) (reach : Reach) → is_at_hand g shadows reach ≡ true → reach.from < reach.run.len → g.block_exp ≤ reach.run.level + 2 →
     reach.run.slot ≡ (shadow_at shadows reach.run.level).slot → (shadow_at shadows reach.run.level).saved ≡ true
 at_hand g shadows reach e h whole z =
     by_test (nat_le reach.run.len reach.from) (nat_lt (reach.run.level + 2) g.block_exp) (reach.run.slot == (shadow_at shadows reach.run.level).slot) (shadow_at shadows reach.run.level).saved e
-    (least_not reach.run.len reach.from h) (le-ltb (reach.run.level + 2) g.block_exp whole) (eq-eqb reach.run.slot (shadow_at shadows reach.run.level).slot z)
+    (lt-leb reach.run.len reach.from h) (le-ltb (reach.run.level + 2) g.block_exp whole) (eq-eqb reach.run.slot (shadow_at shadows reach.run.level).slot z)
 
 -- the cells of a run of the front
 front_shows : (cells : Cells) (told : Option (List ℕ)) (reach : Reach) (window : List ℕ) (last : Bool) (n : ℕ) → cells.front.format ≡ cells.geometry.format → IsInFront cells.front reach window last → IsRunHere cells.geometry reach →
@@ -137,9 +118,7 @@ front_shows cells told reach window last n format found there low below =
     let l = reach.run.level in
     let s = reach.run.slot in
     let i = reach.from + n in
-    let within = there.within in
-    let deep = there.low in
-    let place : IsPlace (cells.geometry.bottom + 1) l s i = record { level_in = omega (arith, deep); slot_in = there.slot_in; index_in = omega (arith, below, within) } in
+    let place : IsPlace (cells.geometry.bottom + 1) l s i = record { level_in = omega (arith, there.low); slot_in = there.slot_in; index_in = omega (arith, below, there.within) } in
     let number : number_of l s reach.from + n ≡ number_of l s i = omega arith in
     let spelled : spelled_at cells.front.format window n ≡ decoded f (cell_bytes_at f n window) =
     ap (λ (x : Format). spelled_at x window n) format ∙ ap (λ (at : ℕ). decoded f (take (width f) (drop at window))) (mul_comm (width f) n) in
@@ -161,8 +140,7 @@ found_shown bytes store lends reach window last sound found run hand = elim (cas
         within = omega arith;
         ends = λ _. refl;
         shows = λ n h.
-            let there : reach.from < reach.run.len = omega (arith, h) in
-            front_shows (cells_of (bytes store.buffers.cache.device) store) (bytes store.buffers.cache.device) reach window last n format f (here there) low h;
+            front_shows (cells_of (bytes store.buffers.cache.device) store) (bytes store.buffers.cache.device) reach window last n format f (here (omega (arith, h))) low h;
       }
   | inr high ↦
       let f = found.below high in
@@ -191,14 +169,12 @@ pub first_shown : {D : Type 0} (bytes : D → Option (List ℕ)) (store : Store 
     Tells ((held_of bytes store).spots reach.run.level reach.run.slot reach.from) (spot_of_bytes store.geometry.format (cell_bytes_at store.geometry.format 0 window))
 first_shown bytes store lends reach window last sound found run hand =
     let told = bytes store.buffers.cache.device in
-    let level = run.level_in in
-    let some = run.some in
-    let here : IsRunHere store.geometry reach = record { low = omega (arith, level); slot_in = run.slot_in; within = run.within } in
+    let here : IsRunHere store.geometry reach = record { low = omega (arith, run.level_in); slot_in = run.slot_in; within = run.within } in
     let at : reach.from + 0 ≡ reach.from = omega arith in
     subst (λ (i : ℕ). Tells ((held_of bytes store).spots reach.run.level reach.run.slot i) (spot_of_bytes store.geometry.format (cell_bytes_at store.geometry.format 0 window))) at
     (elim (cases_lt (reach.run.level + 2) store.geometry.block_exp) [
-      | inl low ↦ front_shows (cells_of told store) told reach window last 0 sound.cells.shape.format (found.in_front low) here low (omega (arith, some))
+      | inl low ↦ front_shows (cells_of told store) told reach window last 0 sound.cells.shape.format (found.in_front low) here low (omega (arith, run.some))
       | inr high ↦
           below_shows (cells_of told store) lends told reach window last 0 refl sound.cells.backed (found.below high) here high
-          (at_hand store.geometry store.shadows reach hand some high) (first_together lends store.geometry reach some)
+          (at_hand store.geometry store.shadows reach hand run.some high) (first_together lends store.geometry reach run.some)
     ])

@@ -28,7 +28,7 @@ use Rattle.cola_run.proofs.Numbers.{block-behind}
 use Rattle.cola_run.proofs.Steps.{written-many, block-fits}
 use Rattle.cola_run.proofs.Lasts.{lasts-forget}
 use Rattle.cola_run.proofs.Reading.{span-is}
-use Rattle.cola_run.proofs.Spots.{telling-is}
+use Rattle.cola_run.proofs.Spots.{both-all, if-so, telling-is}
 
 -- nothing beside the levels on the device changes where a block of one was written
 pub beside-written : (g : Geometry) (level slot index : ℕ) (bytes left : List ℕ) → IsBlock g.block_exp g.bottom → g.block_exp ≤ level + 2 → IsPlace (g.bottom + 1) level slot index → file_bytes g ≤ length bytes → length left ≡ block_bytes g →
@@ -36,37 +36,28 @@ pub beside-written : (g : Geometry) (level slot index : ℕ) (bytes left : List 
 beside-written g level slot index bytes left fits high place long whole =
     let ends = block-fits g fits level slot index high place bytes left long whole in
     let two : 2 ≤ block_number g level slot index = block-behind g.block_exp level slot index high in
-    let from : 2 * block_bytes g ≤ block_number g level slot index * block_bytes g = mul-le-mul_right (block_bytes g) two in
     let now : List ℕ = splice bytes (block_number g level slot index * block_bytes g) left in
     ap (λ (n : ℕ). record { size = n; front = take (2 * block_bytes g) now; behind = drop (file_bytes g) now }) (written-many g fits level slot index high place bytes left long whole)
     ∙ ap (λ (xs : List ℕ). record { size = length bytes; front = xs; behind = drop (file_bytes g) now })
-    (part-splice_below bytes (block_number g level slot index * block_bytes g) left 0 (2 * block_bytes g) (omega (arith, ends, long)) (omega (arith, from)))
+    (part-splice_below bytes (block_number g level slot index * block_bytes g) left 0 (2 * block_bytes g) (omega (arith, ends, long)) (omega (arith, mul-le-mul_right (block_bytes g) two)))
     ∙ ap (λ (xs : List ℕ). record { size = length bytes; front = take (2 * block_bytes g) bytes; behind = xs })
     (drop-behind bytes left (block_number g level slot index * block_bytes g) (file_bytes g) (omega (arith, ends, long)) ends)
 
 pub beside-tail : {T E : Type 0} (result : Result T E) (g : Geometry) (tails : List ℕ) (level slot index : ℕ) (x y : Option (List ℕ)) → IsBlock g.block_exp g.bottom → g.block_exp ≤ level + 2 → IsPlace (g.bottom + 1) level slot index
     → length (tail_of g tails level) ≡ block_bytes g → IfSome x (λ b. file_bytes g ≤ length b) → WroteTail result g tails level slot index x y → option_map (beside g) y ≡ option_map (beside g) x
-beside-tail result g tails level slot index None None fits high place whole long w = refl
-beside-tail result g tails level slot index None (Some c) fits high place whole long w = absurd w
-beside-tail result g tails level slot index (Some b) None fits high place whole long w = absurd w
-beside-tail result g tails level slot index (Some b) (Some c) fits high place whole long w =
-    let v : WroteSome result (block_number g level slot index * block_bytes g) (tail_of g tails level) b c = w in
-    ap (λ (xs : List ℕ). Some (beside g xs)) v.others_stay ∙ ap (λ (x : Beside). Some x) (beside-written g level slot index b v.left fits high place long (v.as_many ∙ whole))
+beside-tail result g tails level slot index x y fits high place whole long w =
+    both-all (WroteSome result (block_number g level slot index * block_bytes g) (tail_of g tails level)) (λ x y. IfSome x (λ b. file_bytes g ≤ length b) → option_map (beside g) y ≡ option_map (beside g) x) (λ _. refl)
+    (λ b c v long. ap (λ (xs : List ℕ). Some (beside g xs)) v.others_stay ∙ ap (λ (x : Beside). Some x) (beside-written g level slot index b v.left fits high place long (v.as_many ∙ whole))) x y w long
 
 pub long-of : (g : Geometry) (shadows : List Shadow) (tails : List ℕ) (x : Option (List ℕ)) → IfSome x (IsBacked g shadows tails) → IfSome x (λ b. file_bytes g ≤ length b)
-long-of g shadows tails None h = tt
-long-of g shadows tails (Some b) h = h.long
+long-of g shadows tails x h = if-so x (IsBacked g shadows tails) (λ b. file_bytes g ≤ length b) (λ b h. h.long) h
 
 -- what a store keeps, by its parts
 pub kept-by : {D K : Type 0} (bytes : D → Option (List ℕ)) (counts : D → Counts) (kept : D → K) (old new : Store D) → new.geometry ≡ old.geometry → new.buffers.cache.blocks ≡ old.buffers.cache.blocks → kept new.buffers.cache.device ≡ kept old.buffers.cache.device
     → option_map (beside old.geometry) (bytes new.buffers.cache.device) ≡ option_map (beside old.geometry) (bytes old.buffers.cache.device)
     → (counts new.buffers.cache.device).others ≡ (counts old.buffers.cache.device).others → kept_of bytes counts kept new ≡ kept_of bytes counts kept old
 kept-by bytes counts kept old new same blocks device around others =
-    ap (λ (g : Geometry). record { geometry = g; cache = new.buffers.cache.blocks; device = kept new.buffers.cache.device; beside = option_map (beside g) (bytes new.buffers.cache.device); others = (counts new.buffers.cache.device).others }) same
-    ∙ ap (λ (n : ℕ). record { geometry = old.geometry; cache = n; device = kept new.buffers.cache.device; beside = option_map (beside old.geometry) (bytes new.buffers.cache.device); others = (counts new.buffers.cache.device).others }) blocks
-    ∙ ap (λ (k : _). record { geometry = old.geometry; cache = old.buffers.cache.blocks; device = k; beside = option_map (beside old.geometry) (bytes new.buffers.cache.device); others = (counts new.buffers.cache.device).others }) device
-    ∙ ap (λ (b : Option Beside). record { geometry = old.geometry; cache = old.buffers.cache.blocks; device = kept old.buffers.cache.device; beside = b; others = (counts new.buffers.cache.device).others }) around
-    ∙ ap (λ (n : ℕ). record { geometry = old.geometry; cache = old.buffers.cache.blocks; device = kept old.buffers.cache.device; beside = option_map (beside old.geometry) (bytes old.buffers.cache.device); others = n }) others
+    cc
 
 -- what a call on the shadow of a level on the device spends
 module _ {D K T E : Type 0} (counts : D → Counts) (kept : D → K) (store now : Store D) (level slot len : ℕ) (wrote : Bool) (result : Result T E) (ticks : ℕ) (fits : IsBlock store.geometry.block_exp store.geometry.bottom)

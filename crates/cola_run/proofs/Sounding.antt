@@ -62,15 +62,11 @@ module _ (g : Geometry) (front : FrontCells) (shadows now : List Shadow) (tails 
 
   room_fits : width g.format * tail_number g level len + length room ≤ length tails
   room_fits =
-      let r = ends in
       let first : tail_number g level 0 + len % b ≡ tail_number g level len = (let z : 0 % b ≡ 0 = grind arith in omega (arith, z)) in
-      let inside : tail_number g level len + room_cells g level len ≤ tail_number g level 0 + b = omega (arith, r, first) in
-      let more : width g.format * (tail_number g level len + room_cells g level len) ≤ width g.format * (tail_number g level 0 + b) = mul-le-mul_left (width g.format) inside in
-      let left = mul-add (width g.format) (tail_number g level len) (room_cells g level len) in
+      let inside : tail_number g level len + room_cells g level len ≤ tail_number g level 0 + b = omega (arith, ends, first) in
       let right = mul-add (width g.format) (tail_number g level 0) b in
-      let all = tail_room g level device in
       let many = shape.tails_many in
-      omega (arith, more, left, right, all, many, size)
+      omega (arith, mul-le-mul_left (width g.format) inside, mul-add (width g.format) (tail_number g level len) (room_cells g level len), right, tail_room g level device, many, size)
 
   stands : IsShadow level (grown count (shadow_at shadows level))
   stands = let t = shape.shadows_fit level device.within in let a = t.within in record { slot_in = t.slot_in; within = omega (arith, few, a) }
@@ -94,25 +90,14 @@ module _ (g : Geometry) (front : FrontCells) (shadows now : List Shadow) (tails 
   other_tail : (l i : ℕ) → IsOnDevice g l → l ≢ level → cell_bytes g.format after (tail_number g l i) ≡ cell_bytes g.format tails (tail_number g l i)
   other_tail l i there d = elim (leb_tells level l) [
     | inl e ↦
-        let low : level ≤ l = e.1 in
-        let high = device.whole in
-        let h : b * (level + 2 - g.block_exp) + b ≤ b * (l + 2 - g.block_exp) = block-before b (level + 2 - g.block_exp) (l + 2 - g.block_exp) (omega (arith, low, d, high)) in
-        let r = ends in
-        stays_above (tail_number g l i) (omega (arith, h, r))
+        stays_above (tail_number g l i) (omega (arith, block-before b (level + 2 - g.block_exp) (l + 2 - g.block_exp) (omega (arith, e.1, d, device.whole)), ends))
     | inr e ↦
-        let low : l < level = e.1 in
-        let high = there.whole in
-        let h : b * (l + 2 - g.block_exp) + b ≤ b * (level + 2 - g.block_exp) = block-before b (l + 2 - g.block_exp) (level + 2 - g.block_exp) (omega (arith, low, high)) in
-        let r : i % b < b = mod-lt i some in
-        stays_below (tail_number g l i) (omega (arith, h, r))
+        stays_below (tail_number g l i) (omega (arith, block-before b (l + 2 - g.block_exp) (level + 2 - g.block_exp) (omega (arith, e.1, there.whole)), mod-lt i some))
   ]
 
   own_tail : (i : ℕ) → i / b ≡ len / b → i < len → cell_bytes g.format after (tail_number g level i) ≡ cell_bytes g.format tails (tail_number g level i)
   own_tail i e h =
-      let x = div-add-mod i b in
-      let y = div-add-mod len b in
-      let z : b * (i / b) ≡ b * (len / b) = ap (λ (n : ℕ). b * n) e in
-      stays_below (tail_number g level i) (omega (arith, x, y, z, h))
+      stays_below (tail_number g level i) (omega (arith, div-add-mod i b, div-add-mod len b, ap (λ (n : ℕ). b * n) e, h))
 
   saved_by : (bytes : List ℕ) → IsBacked g shadows tails bytes → (c : ℕ) → (shadow_at now level) ≡ grown c (shadow_at shadows level) → (shadow_at now level).saved ≡ true → IsSaved g now after bytes level
   saved_by bytes backed zero is e = λ i t.
@@ -174,7 +159,6 @@ module _ (g : Geometry) (front : FrontCells) (shadows now : List Shadow) (tails 
   woven_cell None k h spelled = refl
   woven_cell (Some bytes) k h spelled =
       let place = new_there k h in
-      let c = as_cell (standing g.format (cell_bytes_at g.format k room)) in
       let old : is_untold (spots_of (cells_by g front (lower (Some bytes))) level slot (len + k)) ≡ false =
       ap (λ (x : Spot). is_untold x) (spot-there (cells_by g front (lower (Some bytes))) bytes level slot (len + k) place ∙ spot-device (cells_by g front (lower (Some bytes))) bytes level slot (len + k) device.whole)
       ∙ spot_is_told g.format (device_cell g shadows tails bytes level slot (len + k)) in
@@ -182,7 +166,7 @@ module _ (g : Geometry) (front : FrontCells) (shadows now : List Shadow) (tails 
       ∙ spot-device (cells_by g front (lower_now (Some bytes))) bytes level slot (len + k) device.whole
       ∙ ap (λ (x : List ℕ). spot_of_bytes g.format x) (device-in g now after bytes level slot (len + k) (new_place k h) ∙ new_bytes k h)
       ∙ spot_told g.format (standing g.format (cell_bytes_at g.format k room)) (cell_bytes_at g.format k room) spelled
-      ∙ sym (put_is_told (spots_of (cells_by g front (lower (Some bytes))) level slot (len + k)) c old)
+      ∙ sym (put_is_told (spots_of (cells_by g front (lower (Some bytes))) level slot (len + k)) (as_cell (standing g.format (cell_bytes_at g.format k room))) old)
 
   -- every other place
   stays_here : (bytes : List ℕ) (s i : ℕ) → (s ≢ slot) ⊎ ((i < len) ⊎ (len + count ≤ i)) → device_cell g now after bytes level s i ≡ device_cell g shadows tails bytes level s i

@@ -1,6 +1,6 @@
 -- What is told of a place: of one in the front, one in a tail, and one on the device.
 use Rattle.std.proofs.Common.{eq-eqb, ◌≡◌, inl, inr, ℕ, ◌+◌, ◌/◌, ◌<◌, ◌≤◌, ◌==◌, nat_lt, ◌&&◌, Bool, true, false, if◌then◌else◌, List, Option, None, Some, IfSome, is_some, refl, sym, ap, ◌∙◌, Result, Ok, Err}
-use Rattle.std.proofs.lemmas.Bool.{eqb-true, false≢true, ltb-true, lt-ltb, le-ltb, cases_lt}
+use Rattle.std.proofs.lemmas.Bool.{and_parts, eqb-true, false≢true, false_from_ne_true, ltb-true, lt-ltb, le-ltb, cases_lt}
 use Rattle.std.specs.Prelude.{OnOk}
 use Rattle.cola_outside.specs.Told.{Both}
 use Rattle.cola_cell.specs.declared.cell.Cell.{Cell}
@@ -23,12 +23,6 @@ pub choose-else : {A : Type 0} (t : Bool) (x y : A) → t ≡ false → (if t th
 choose-else true x y e = absurd (false≢true (sym e))
 choose-else false x y e = refl
 
--- two tests that both hold
-both-hold : (a b : Bool) → (a && b) ≡ true → (a ≡ true) × (b ≡ true)
-both-hold true true e = (refl, refl)
-both-hold true false e = absurd (false≢true e)
-both-hold false b e = absurd (false≢true e)
-
 -- what is so of every content is so of one that is told; and what follows
 pub if-told : {A : Type 0} {P : A → Type 0} (x : Option A) → ((a : A) → P a) → IfSome x P
 if-told None f = tt
@@ -43,12 +37,16 @@ pub on-ok : {T E P : Type 0} (result : Result T E) → P → OnOk result P
 on-ok (Ok x) p = p
 on-ok (Err e) p = tt
 
+-- what is so of two contents that are not told, and of two that are and stand in a relation, is so where both are told or neither
+pub both-all : {A B : Type 0} (P : A → B → Type 0) (Q : Option A → Option B → Type 0) → Q None None → ((x : A) (y : B) → P x y → Q (Some x) (Some y)) → (a : Option A) (b : Option B) → Both a b P → Q a b
+both-all P Q n f None None h = n
+both-all P Q n f None (Some y) h = absurd h
+both-all P Q n f (Some x) None h = absurd h
+both-all P Q n f (Some x) (Some y) h = f x y h
+
 -- a relation of two told contents that follows from another
 pub both-so : {A B : Type 0} (a : Option A) (b : Option B) (P Q : A → B → Type 0) → ((x : A) (y : B) → P x y → Q x y) → Both a b P → Both a b Q
-both-so None None P Q f h = tt
-both-so None (Some y) P Q f h = absurd h
-both-so (Some x) None P Q f h = absurd h
-both-so (Some x) (Some y) P Q f h = f x y h
+both-so a b P Q f h = both-all P (λ x y. Both x y Q) tt f a b h
 
 -- a content that is told again
 pub both-same : {A : Type 0} (a : Option A) (P : A → A → Type 0) → ((x : A) → P x x) → Both a a P
@@ -73,19 +71,15 @@ pub record IsInTail (span : ℕ) (shadow : Shadow) (slot index : ℕ) : Type 0 w
 
 pub in-tail : (span : ℕ) (shadow : Shadow) (slot index : ℕ) → is_in_tail span shadow slot index ≡ true → IsInTail span shadow slot index
 in-tail span shadow slot index e =
-    let h = both-hold (slot == shadow.slot && index / span == shadow.len / span) (nat_lt index shadow.len) e in
-    let k = both-hold (slot == shadow.slot) (index / span == shadow.len / span) h.0 in
+    let h = and_parts (slot == shadow.slot && index / span == shadow.len / span) (nat_lt index shadow.len) e in
+    let k = and_parts (slot == shadow.slot) (index / span == shadow.len / span) h.0 in
     record { slot_is = eqb-true slot shadow.slot k.0; block_is = eqb-true (index / span) (shadow.len / span) k.1; within = ltb-true index shadow.len h.1 }
 
 pub tail-is : (span : ℕ) (shadow : Shadow) (slot index : ℕ) → IsInTail span shadow slot index → is_in_tail span shadow slot index ≡ true
 tail-is span shadow slot index p = rw (eq-eqb slot shadow.slot p.slot_is, eq-eqb (index / span) (shadow.len / span) p.block_is, lt-ltb index shadow.len p.within) refl
 
 pub tail-not : (span : ℕ) (shadow : Shadow) (slot index : ℕ) → (IsInTail span shadow slot index → ⊥) → is_in_tail span shadow slot index ≡ false
-tail-not span shadow slot index d = by-test (is_in_tail span shadow slot index) refl
-  where
-    by-test : (t : Bool) → is_in_tail span shadow slot index ≡ t → t ≡ false
-    by-test true e = absurd (d (in-tail span shadow slot index e))
-    by-test false e = refl
+tail-not span shadow slot index d = false_from_ne_true (is_in_tail span shadow slot index) (λ e. d (in-tail span shadow slot index e))
 
 -- the bytes of a cell of a level on the device
 module _ (g : Geometry) (shadows : List Shadow) (tails bytes : List ℕ) (l s i : ℕ) where
@@ -112,8 +106,8 @@ module _ (g : Geometry) (shadows : List Shadow) (tails bytes : List ℕ) (l s i 
 -- the test of a place
 pub place-of : (levels l s i : ℕ) → is_place levels l s i ≡ true → IsPlace levels l s i
 place-of levels l s i e =
-    let h = both-hold (nat_lt l levels && nat_lt s 2) (nat_lt i (slot_size l)) e in
-    let k = both-hold (nat_lt l levels) (nat_lt s 2) h.0 in
+    let h = and_parts (nat_lt l levels && nat_lt s 2) (nat_lt i (slot_size l)) e in
+    let k = and_parts (nat_lt l levels) (nat_lt s 2) h.0 in
     record { level_in = ltb-true l levels k.0; slot_in = ltb-true s 2 k.1; index_in = ltb-true i (slot_size l) h.1 }
 
 pub place-so : (levels l s i : ℕ) → IsPlace levels l s i → is_place levels l s i ≡ true
@@ -158,16 +152,11 @@ module _ (g : Geometry) (front now : FrontCells) (old new : Lower) (l s i : ℕ)
       by-test false e =
           choose-else (is_place (g.bottom + 1) l s i) (standing_spot now-cells c l s i) Bad e ∙ sym (choose-else (is_place (g.bottom + 1) l s i) (standing_spot before-cells b l s i) Bad e)
 
-  told-stays : (x y : Option (List ℕ)) → Both x y (λ b c. IsPlace (g.bottom + 1) l s i → g.block_exp ≤ l + 2 → device_cell g new.shadows new.tails c l s i ≡ device_cell g old.shadows old.tails b l s i) →
-      told_spot now-cells y l s i ≡ told_spot before-cells x l s i
-  told-stays None None h = refl
-  told-stays None (Some c) h = absurd h
-  told-stays (Some b) None h = absurd h
-  told-stays (Some b) (Some c) h = known-stays b c h
-
   pub spots-stay : Both old.told new.told (λ b c. IsPlace (g.bottom + 1) l s i → g.block_exp ≤ l + 2 → device_cell g new.shadows new.tails c l s i ≡ device_cell g old.shadows old.tails b l s i) →
       spots_of (cells_by g now new) l s i ≡ spots_of (cells_by g front old) l s i
-  spots-stay h = told-stays old.told new.told h
+  spots-stay h =
+      both-all (λ b c. IsPlace (g.bottom + 1) l s i → g.block_exp ≤ l + 2 → device_cell g new.shadows new.tails c l s i ≡ device_cell g old.shadows old.tails b l s i)
+      (λ x y. told_spot now-cells y l s i ≡ told_spot before-cells x l s i) refl known-stays old.told new.told h
 
 -- a place is told where the device tells its bytes, and only there
 front-told : (c : Option Cell) → is_untold (spot_of c) ≡ false
@@ -187,27 +176,16 @@ pub known-told : (cells : Cells) (bytes : List ℕ) (l s i : ℕ) → is_untold 
 known-told cells bytes l s i = known-by cells bytes l s i (is_place (cells.geometry.bottom + 1) l s i)
 
 pub telling-is : (old new : Cells) (P : List ℕ → List ℕ → Type 0) → Both old.lower.told new.lower.told P → (l s i : ℕ) → is_untold (spots_of new l s i) ≡ is_untold (spots_of old l s i)
-telling-is old new P h l s i = by-case old.lower.told new.lower.told h
-  where
-    by-case : (x y : Option (List ℕ)) → Both x y P → is_untold (told_spot new y l s i) ≡ is_untold (told_spot old x l s i)
-    by-case None None h = refl
-    by-case None (Some c) h = absurd h
-    by-case (Some b) None h = absurd h
-    by-case (Some b) (Some c) h = known-told new c l s i ∙ sym (known-told old b l s i)
+telling-is old new P h l s i =
+    both-all P (λ x y. is_untold (told_spot new y l s i) ≡ is_untold (told_spot old x l s i)) refl (λ b c _. known-told new c l s i ∙ sym (known-told old b l s i)) old.lower.told new.lower.told h
 
 -- what is so of a told content, beside a relation to another
 pub both-with : {A B : Type 0} (a : Option A) (b : Option B) (Q : A → Type 0) (P : A → B → Type 0) → IfSome a Q → Both a b P → Both a b (λ x y. Q x × P x y)
-both-with None None Q P q h = tt
-both-with None (Some y) Q P q h = absurd h
-both-with (Some x) None Q P q h = absurd h
-both-with (Some x) (Some y) Q P q h = (q, h)
+both-with a b Q P q h = both-all P (λ x y. IfSome x Q → Both x y (λ x y. Q x × P x y)) (λ _. tt) (λ x y p q. (q, p)) a b h q
 
 -- what follows of the second of two told contents
 pub both-second : {A B : Type 0} (a : Option A) (b : Option B) (P : A → B → Type 0) (Q : B → Type 0) → ((x : A) (y : B) → P x y → Q y) → Both a b P → IfSome b Q
-both-second None None P Q f h = tt
-both-second None (Some y) P Q f h = absurd h
-both-second (Some x) None P Q f h = absurd h
-both-second (Some x) (Some y) P Q f h = f x y h
+both-second a b P Q f h = both-all P (λ x y. IfSome y Q) tt f a b h
 
 -- a cell that is put in a place that is told
 pub with-told : (x : Spot) (c : LawCell) → is_untold x ≡ false → Told c ≡ with_cell x c

@@ -64,9 +64,7 @@ module _ (g : Geometry) (front : FrontCells) (old new : Lower) (level slot : ℕ
     (told : new.told ≡ old.told) (tails : new.tails ≡ old.tails) (one : OneShadow old.shadows new.shadows level (emptied slot)) where
   none : (s i : ℕ) → IsInTail (block_cells g) (shadow_at new.shadows level) s i → ⊥
   none s i q =
-      let h : i < (shadow_at new.shadows level).len = q.within in
-      let e : (shadow_at new.shadows level).len ≡ 0 = ap (λ (x : Shadow). x.len) one.is in
-      omega (arith, h, e)
+      omega (arith, q.within, ap (λ (x : Shadow). x.len) one.is)
 
   -- the cells that are not in its tail stay
   pub restart-others : (l s i : ℕ) → (l ≢ level) ⊎ (s ≢ (shadow_at old.shadows level).slot) ⊎ ((shadow_at old.shadows level).len ≤ i) →
@@ -76,8 +74,7 @@ module _ (g : Geometry) (front : FrontCells) (old new : Lower) (level slot : ℕ
       (if-told old.told (λ b same p high.
       device-out g new.shadows new.tails b level s i (none s i)
       ∙ sym (device-out g old.shadows old.tails b level s i (λ q.
-      let h : i < (shadow_at old.shadows level).len = q.within in
-      elim apart [ inl x ↦ x same | inr x ↦ elim x [ inl y ↦ y q.slot_is | inr y ↦ omega (arith, h, y) ] ]))))
+      elim apart [ inl x ↦ x same | inr x ↦ elim x [ inl y ↦ y q.slot_is | inr y ↦ omega (arith, q.within, y) ] ]))))
 
   -- all of them do where those of its tail are on the device
   pub restart-kept : IfSome old.told (IsBacked g old.shadows old.tails) → (g.block_exp ≤ level + 2 → (shadow_at old.shadows level).saved ≡ true) → (l s i : ℕ) →

@@ -3,8 +3,6 @@ use Rattle.std.proofs.Common.{◌≡◌, ◌≢◌, ◌⊎◌, inl, inr, ℕ, �
 use Rattle.std.proofs.lemmas.Bool.{cases_order}
 use Rattle.std.proofs.lemmas.Nat.{pow_pos}
 use Rattle.std.proofs.Math.Nat.{mod-lt, zero-mod}
-use Rattle.cola_cell.specs.declared.format.Format.{Format}
-use Rattle.cola_cell.specs.declared.format.Format.TheVariants.{One, Two}
 use Rattle.cola_cell.specs.Format.{width}
 use Rattle.cola_cell.specs.Places.{number_of, IsPlace}
 use Rattle.cola_device.specs.Bytes.{part, splice}
@@ -20,31 +18,20 @@ use Rattle.cola_run.proofs.Bytes.{cell-below, cell-above, cell-part, room-of, ro
 -- the tails have room for the tail of each level on the device
 pub tail-within : (g : Geometry) (level i : ℕ) → IsBlock g.block_exp g.bottom → IsOnDevice g level → tail_number g level i + 1 ≤ block_cells g * device_levels g
 tail-within g level i fits device =
-    let low : level ≤ g.bottom = device.within in
-    let high : g.block_exp ≤ level + 2 = device.whole in
-    let more : block_cells g * (level + 2 - g.block_exp) + block_cells g ≤ block_cells g * device_levels g =
-    block-before (block_cells g) (level + 2 - g.block_exp) (device_levels g) (omega (arith, low, high)) in
-    let rest : i % block_cells g < block_cells g = mod-lt i (pow_pos g.block_exp) in
-    omega (arith, more, rest)
+    omega (arith, block-before (block_cells g) (level + 2 - g.block_exp) (device_levels g) (omega (arith, device.within, device.whole)), mod-lt i (pow_pos g.block_exp))
 
 -- the number of the first cell of a tail
 pub tail-first : (g : Geometry) (level : ℕ) → tail_number g level 0 ≡ block_cells g * (level + 2 - g.block_exp)
 tail-first g level =
-    let z : 0 % block_cells g ≡ 0 = zero-mod (block_cells g) in
-    omega (arith, z)
+    omega (arith, zero-mod (block_cells g))
 
 -- the tail of a level is one block
 pub tail_room : (g : Geometry) (level : ℕ) → IsOnDevice g level → width g.format * tail_number g level 0 + block_bytes g ≤ width g.format * (block_cells g * device_levels g)
 tail_room g level device =
-    let low : level ≤ g.bottom = device.within in
-    let high : g.block_exp ≤ level + 2 = device.whole in
-    let first = tail-first g level in
     let more : block_cells g * (level + 2 - g.block_exp) + block_cells g ≤ block_cells g * device_levels g =
-    block-before (block_cells g) (level + 2 - g.block_exp) (device_levels g) (omega (arith, low, high)) in
-    let room : width g.format * (tail_number g level 0 + block_cells g) ≤ width g.format * (block_cells g * device_levels g) =
-    room-of g.format (tail_number g level 0 + block_cells g) (block_cells g * device_levels g) (omega (arith, first, more)) in
+    block-before (block_cells g) (level + 2 - g.block_exp) (device_levels g) (omega (arith, device.within, device.whole)) in
     let sum = room-sum g.format (tail_number g level 0) (block_cells g) in
-    omega (arith, room, sum)
+    omega (arith, room-of g.format (tail_number g level 0 + block_cells g) (block_cells g * device_levels g) (omega (arith, tail-first g level, more)), sum)
 
 pub tail-holds : (g : Geometry) (tails : List ℕ) (level : ℕ) → IsOnDevice g level → length tails ≡ width g.format * (block_cells g * device_levels g)
     → width g.format * tail_number g level 0 + block_bytes g ≤ length tails
@@ -53,9 +40,7 @@ tail-holds g tails level device many = let h = tail_room g level device in omega
 -- and for a cell of it
 pub cell_holds : (g : Geometry) (place many : ℕ) → place < block_cells g * device_levels g → many ≡ width g.format * (block_cells g * device_levels g) → width g.format * place + width g.format ≤ many
 cell_holds g place many within is =
-    let more = room-of g.format (place + 1) (block_cells g * device_levels g) (omega (arith, within)) in
-    let sum = room-sum g.format place 1 in
-    omega (arith, more, sum, is)
+    omega (arith, room-of g.format (place + 1) (block_cells g * device_levels g) (omega (arith, within)), room-sum g.format place 1, is)
 
 pub tail_many : (g : Geometry) (tails : List ℕ) (level : ℕ) → IsBlock g.block_exp g.bottom → IsOnDevice g level → length tails ≡ width g.format * (block_cells g * device_levels g)
     → length (tail_of g tails level) ≡ block_bytes g
@@ -64,35 +49,24 @@ tail_many g tails level fits device many = length-part tails (width g.format * t
 -- a cell of a tail among those of the tails
 pub tail-cell : (g : Geometry) (tails : List ℕ) (level i : ℕ) → cell_bytes g.format (tail_of g tails level) (i % block_cells g) ≡ cell_bytes g.format tails (tail_number g level i)
 tail-cell g tails level i =
-    let first = tail-first g level in
-    let at : tail_number g level 0 + i % block_cells g ≡ tail_number g level i = omega (arith, first) in
+    let at : tail_number g level 0 + i % block_cells g ≡ tail_number g level i = omega (arith, tail-first g level) in
     cell-part g.format tails (tail_number g level 0) (block_cells g) (i % block_cells g) (mod-lt i (pow_pos g.block_exp)) ∙ ap (λ (n : ℕ). cell_bytes g.format tails n) at
 
 -- tails in which a cell was put
 module _ (g : Geometry) (tails new : List ℕ) (level at : ℕ) (fits : IsBlock g.block_exp g.bottom) (device : IsOnDevice g level)
     (many : length tails ≡ width g.format * (block_cells g * device_levels g)) (long : length new ≡ width g.format) where
-  once : (f : Format) → length new ≡ width f → length new ≡ width f * 1
-  once One h = h
-  once Two h = h
-
   room : width g.format * (tail_number g level at + 1) ≤ length tails
   room =
-      let h = room-of g.format (tail_number g level at + 1) (block_cells g * device_levels g) (tail-within g level at fits device) in
-      omega (arith, h, many)
+      omega (arith, room-of g.format (tail_number g level at + 1) (block_cells g * device_levels g) (tail-within g level at fits device), many)
 
   begins : width g.format * tail_number g level at ≤ length tails
   begins =
-      let h = room in
-      let sum = room-sum g.format (tail_number g level at) 1 in
-      omega (arith, h, sum)
+      omega (arith, room, room-sum g.format (tail_number g level at) 1)
 
   -- are as many
   pub put-many : length (splice tails (width g.format * tail_number g level at) new) ≡ length tails
   put-many =
-      let h = room in
-      let sum = room-sum g.format (tail_number g level at) 1 in
-      let n = once g.format long in
-      length-splice tails (width g.format * tail_number g level at) new (omega (arith, h, sum, n))
+      length-splice tails (width g.format * tail_number g level at) new (omega (arith, room, room-sum g.format (tail_number g level at) 1, long))
 
   -- the cell is there
   pub put-there : cell_bytes g.format (splice tails (width g.format * tail_number g level at) new) (tail_number g level at) ≡ new
@@ -108,7 +82,7 @@ module _ (g : Geometry) (tails new : List ℕ) (level at : ℕ) (fits : IsBlock 
         | inl same ↦ absurd (differ same)
         | inr other ↦ elim other [
           | inl below ↦ cell-below g.format tails new (tail_number g level at) (tail_number g l i) begins (omega (arith, below))
-          | inr above ↦ cell-above g.format tails new (tail_number g level at) 1 (tail_number g l i) begins (once g.format long) (omega (arith, above))
+          | inr above ↦ cell-above g.format tails new (tail_number g level at) 1 (tail_number g l i) begins (omega (arith, long)) (omega (arith, above))
         ]
       ]
     where
@@ -117,10 +91,7 @@ module _ (g : Geometry) (tails new : List ℕ) (level at : ℕ) (fits : IsBlock 
           let (first, place) = tail-block g.block_exp (l + 2 - g.block_exp) i in
           let (second, there) = tail-block g.block_exp (level + 2 - g.block_exp) at in
           let blocks : l + 2 - g.block_exp ≡ level + 2 - g.block_exp = sym first ∙ ap (λ (n : ℕ). n / block_cells g) same ∙ second in
-          let places : i % block_cells g ≡ at % block_cells g = sym place ∙ ap (λ (n : ℕ). n % block_cells g) same ∙ there in
-          let high : g.block_exp ≤ l + 2 = on.whole in
-          let top : g.block_exp ≤ level + 2 = device.whole in
-          elim apart [ inl h ↦ h (omega (arith, blocks, high, top)) | inr h ↦ h places ]
+          elim apart [ inl h ↦ h (omega (arith, blocks, on.whole, device.whole)) | inr h ↦ h (sym place ∙ ap (λ (n : ℕ). n % block_cells g) same ∙ there) ]
 
 -- a device on which the block of a place was written
 module _ (g : Geometry) (fits : IsBlock g.block_exp g.bottom) (level slot index : ℕ) (high : g.block_exp ≤ level + 2) (place : IsPlace (g.bottom + 1) level slot index)
@@ -135,9 +106,8 @@ module _ (g : Geometry) (fits : IsBlock g.block_exp g.bottom) (level slot index 
   ends =
       let h : block_cells g * block_number g level slot index + block_cells g ≤ 2 ^ (g.bottom + 4) =
       block-ends g.bottom g.block_exp (block_number g level slot index) few (block-in_file g.bottom g.block_exp level slot index few place) in
-      let room = room-of g.format (block_cells g * block_number g level slot index + block_cells g) (2 ^ (g.bottom + 4)) h in
       let sum = room-sum g.format (block_cells g * block_number g level slot index) (block_cells g) in
-      omega (arith, room, sum, long)
+      omega (arith, room-of g.format (block_cells g * block_number g level slot index + block_cells g) (2 ^ (g.bottom + 4)) h, sum, long)
 
   begins-at : width g.format * (block_cells g * block_number g level slot index) ≤ length bytes
   begins-at = let h = ends in omega (arith, h)
@@ -147,10 +117,9 @@ module _ (g : Geometry) (fits : IsBlock g.block_exp g.bottom) (level slot index 
   block-fits =
       let h : block_cells g * block_number g level slot index + block_cells g ≤ 2 ^ (g.bottom + 4) =
       block-ends g.bottom g.block_exp (block_number g level slot index) few (block-in_file g.bottom g.block_exp level slot index few place) in
-      let room = room-of g.format (block_cells g * block_number g level slot index + block_cells g) (2 ^ (g.bottom + 4)) h in
       let sum = room-sum g.format (block_cells g * block_number g level slot index) (block_cells g) in
       let from = block-from g.format (block_cells g) (block_number g level slot index) in
-      omega (arith, room, sum, from, whole)
+      omega (arith, room-of g.format (block_cells g * block_number g level slot index + block_cells g) (2 ^ (g.bottom + 4)) h, sum, from, whole)
 
   -- it has as many bytes
   pub written-many : length written ≡ length bytes

@@ -8,6 +8,7 @@ ghost use Rattle.cola_run.specs.Cells.{block_bytes, file_bytes};
 ghost use Rattle.cola_run.specs.Store.{Store, IsStore, new_store, new_shadows, new_tails};
 
 use crate::tails::{Tails, cells_of_block, levels_on_device};
+use crate::weaving::FRONT_ROOM;
 use cola_cache::Buffers;
 use cola_cell::{Format, Shadow};
 use cola_device::Device;
@@ -30,6 +31,8 @@ pub struct RunStore<D: Device> {
     pub(crate) shadows: BoxedSlice<Shadow>,
     pub(crate) tails: Tails,
     pub(crate) ticked: u64,
+    /// Where a merge into the front puts its cells before they are copied there. A contract does not see it.
+    pub(crate) room: [u8; FRONT_ROOM],
 }
 
 impl<D: Device> Model for RunStore<D> {
@@ -122,6 +125,7 @@ impl<D: Device> RunStore<D> {
                 shadows,
                 tails,
                 ticked: 0,
+                room: [0; FRONT_ROOM],
             }),
             Err(error) => Err(error),
         }

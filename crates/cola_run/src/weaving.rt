@@ -1,5 +1,5 @@
 //! The bytes of runs where they lie, as a device lends them or a buffer has them, and a merge or a search over them.
-ghost use Rattle.std.specs.Prelude.{◌≡◌, ◌≢◌, ℕ, ◌+◌, ◌*◌, ◌^◌, ◌≤◌, ◌<◌, false, Option, None, Some, IfSome, Result, Err, OnOk, IsOk, length};
+ghost use Rattle.std.specs.Prelude.{◌≡◌, ◌≢◌, ℕ, ◌+◌, ◌*◌, ◌^◌, ◌≤◌, ◌<◌, Bool, true, false, List, Option, None, Some, is_some, IfSome, Result, Err, OnOk, IsOk, length};
 ghost use Rattle.cola_cell.specs.declared.cell.Cell.{Cell};
 ghost use Rattle.cola_cell.specs.declared.fault.ReadFault.{ReadFault};
 ghost use Rattle.cola_cell.specs.declared.fault.ReadFault.TheVariants.{Device};
@@ -8,6 +8,7 @@ ghost use Rattle.cola_cell.specs.Places.{slot_size};
 ghost use Rattle.cola_cell.specs.Format.{width};
 ghost use Rattle.cola_cell.specs.Windows.{AreSpelled, IsReach, Weaves, grown};
 ghost use Rattle.cola_device.specs.Bytes.{part};
+ghost use Rattle.cola_front.specs.Front.{FrontCells};
 ghost use Rattle.cola_run.specs.Cells.{IsOnDevice, block_bytes, block_cells, device_levels, file_blocks, tails_bytes};
 ghost use Rattle.cola_run.specs.Store.{kept_of, reader_number, state_of};
 ghost use Rattle.cola_run.specs.Turns.{buffer_index, IsReadAfter, OnlyTurns};
@@ -27,7 +28,7 @@ use cola_outside::Steps;
 use std::sync::ledger::Ledger;
 
 /// How many bytes of cells a merge puts into the front at once: 32 cells, or 16 of format Two.
-const FRONT_ROOM: usize = 2048;
+pub(crate) const FRONT_ROOM: usize = 2048;
 
 /// Which of the three buffers of a level a reader has.
 #[inline]
@@ -148,6 +149,7 @@ fn window_lent<'a, D: Device>(
     requires size { buffers.now.cache.size ≡ block_bytes geometry.now }
     requires many { buffers.now.many ≡ file_blocks geometry.now }
     ensures found { IfSome result (λ window. IsBelow D.lends (D.bytes buffers.now.cache.device) geometry.now reach window.bytes.now window.is_last) }
+    ensures lent { is_some result ≡ true → D.lends ≡ true }
     ensures none { result ≡ None → D.lends ≡ false }
 {
     let count = reach.run.len - reach.from;
@@ -210,33 +212,31 @@ fn window_of<'a, D: Device>(
     window_below(buffers, geometry, reader, reach)
 }
 
-/// The bytes of a run from a cell on that can be looked at where it lies: as `window_of` finds them.
+/// The bytes of a run from a cell on where no buffer has to be turned: those of the front, and of a device that lends them.
 #[inline(always)]
-fn window_there<'a, D: Device>(
+fn window_at_once<'a, D: Device>(
     front: &'a Front,
     buffers: &'a Buffers<D>,
     geometry: &Geometry,
     reach: Reach,
-) -> Window<'a>
+) -> Option<Window<'a>>
     requires some { reach.from < reach.run.len }
     requires there { IsRunHere geometry.now reach }
     requires block { front.now.block ≡ block_cells geometry.now }
     requires size { buffers.now.cache.size ≡ block_bytes geometry.now }
     requires many { buffers.now.many ≡ file_blocks geometry.now }
-    requires buffers { length buffers.now.lasts ≡ 1 + 3 * device_levels geometry.now }
-    requires has { HasWindow D.lends geometry.now buffers.now.lasts None reach }
-    ensures { IsFound D.lends (D.bytes buffers.now.cache.device) geometry.now front.now reach result.bytes.now result.is_last }
+    ensures found { IfSome result (λ window. IsFound D.lends (D.bytes buffers.now.cache.device) geometry.now front.now reach window.bytes.now window.is_last) }
+    ensures lent { is_some result ≡ true → geometry.now.block_exp ≤ reach.run.level + 2 → D.lends ≡ true }
+    ensures whole { result ≡ None → geometry.now.block_exp ≤ reach.run.level + 2 }
+    ensures none { result ≡ None → D.lends ≡ false }
 {
     if reach.run.level + 2 < geometry.block_exp {
-        return window_in_front(front, geometry, reach);
+        return Some(window_in_front(front, geometry, reach));
     }
-    match window_lent(buffers, geometry, reach) {
-        Some(window) => window,
-        None => window_held(buffers, geometry, None, reach),
-    }
+    window_lent(buffers, geometry, reach)
 }
 
-/// Turns the buffer of searches to the block of a cell of a run, where that is on a device that lends no bytes.
+/// Turns the buffer of searches to the block of a cell of a run on the device.
 #[inline(always)]
 fn turn_for_search<D: Device>(
     buffers: &mut Buffers<D>,
@@ -245,44 +245,34 @@ fn turn_for_search<D: Device>(
 ) -> Result<(), DeviceFault>
     requires some { reach.from < reach.run.len }
     requires there { IsRunHere geometry.now reach }
+    requires whole { geometry.now.block_exp ≤ reach.run.level + 2 }
     requires many { buffers.old.many ≡ file_blocks geometry.now }
     requires buffers { length buffers.old.lasts ≡ 1 + 3 * device_levels geometry.now }
-    ensures has { OnOk result (HasWindow D.lends geometry.now buffers.new.lasts None reach) }
-    ensures calm { HasWindow D.lends geometry.now buffers.old.lasts None reach → (buffers.new ≡ buffers.old) × IsOk result }
+    ensures turned { OnOk result (IsTurnedTo geometry.now buffers.new.lasts None reach) }
+    ensures calm { IsTurnedTo geometry.now buffers.old.lasts None reach → (buffers.new ≡ buffers.old) × IsOk result }
     ensures turns { (answer : Result Cell ReadFault) → IsReadAfter result answer → SearchTurns D.counts D.lends geometry.now buffers.old buffers.new reach answer }
     ensures keeps { OnlyTurns D.Device buffers.old buffers.new }
 {
     let Reach { run, from } = reach;
-    // A device lends all of its bytes or none.
-    if run.level + 2 < geometry.block_exp || buffers.lent(0, 0).is_some() {
-        return Ok(());
-    }
     let search = buffer_of(geometry, None, run.level);
     buffers.turn_to(search, block_at(geometry, run.level, run.slot, from))
 }
 
-/// Lets a search run over the bytes of a run from a cell on that can be looked at where it lies. It is refused where the bytes of
-/// that cell spell none.
+/// Lets a search run over a window, the bytes of a run from a cell on. It is refused where the bytes of that cell spell none.
 #[inline(always)]
-fn search_there<D: Device, S: WindowSearch>(
-    front: &Front,
-    buffers: &Buffers<D>,
+fn search_in<S: WindowSearch>(
     geometry: &Geometry,
     reach: Reach,
+    window: Window,
     search: &mut S,
     probe: &S::Probe,
 ) -> Result<u32, ReadFault>
     requires can { S.can search.old }
     requires some { reach.from < reach.run.len }
     requires there { IsRunHere geometry.now reach }
-    requires block { front.now.block ≡ block_cells geometry.now }
-    requires size { buffers.now.cache.size ≡ block_bytes geometry.now }
-    requires many { buffers.now.many ≡ file_blocks geometry.now }
-    requires buffers { length buffers.now.lasts ≡ 1 + 3 * device_levels geometry.now }
-    requires has { HasWindow D.lends geometry.now buffers.now.lasts None reach }
-    ensures { ScansThere S.sought D.lends (D.bytes buffers.now.cache.device) geometry.now front.now reach search.old search.new probe.now result }
+    ensures { (lends : Bool) (told : Option (List ℕ)) (front : FrontCells) → IsFound lends told geometry.now front reach window.entry.bytes.now window.entry.is_last →
+        ScansThere S.sought lends told geometry.now front reach search.old search.new probe.now result }
 {
-    let window = window_there(front, buffers, geometry, reach);
     let accessed = search.seek(probe, geometry.format, window.bytes);
     if accessed == 0 {
         let Reach { run, from } = reach;
@@ -315,8 +305,14 @@ pub(crate) fn search_run<D: Device, S: WindowSearch>(
     ensures turns { (cell : Cell) → SearchTurns D.counts D.lends geometry.now buffers.old buffers.new reach (as_read cell result) }
     ensures keeps { OnlyTurns D.Device buffers.old buffers.new }
 {
+    if let Some(window) = window_at_once(front, buffers, geometry, reach) {
+        return search_in(geometry, reach, window, search, probe);
+    }
     match turn_for_search(buffers, geometry, reach) {
-        Ok(()) => search_there(front, buffers, geometry, reach, search, probe),
+        Ok(()) => {
+            let window = window_held(buffers, geometry, None, reach);
+            search_in(geometry, reach, window, search, probe)
+        }
         Err(_) => Err(ReadFault::Device),
     }
 }
@@ -427,13 +423,14 @@ fn put_woven(
     set_shadow(shadows, level, longer_by(shadow, count));
 }
 
-/// Lets a merge run over the runs where their bytes lie, into a level of the front.
+/// Lets a merge run over the runs where their bytes lie, by way of a room into a level of the front.
 #[inline(always)]
 fn weave_into_front<D: Device, M: WindowMerge>(
     front: &mut Front,
     buffers: &Buffers<D>,
     geometry: &Geometry,
     shadows: &mut [Shadow],
+    bytes: &mut [u8; FRONT_ROOM],
     level: u8,
     own: Reach,
     incoming: Reach,
@@ -460,7 +457,6 @@ fn weave_into_front<D: Device, M: WindowMerge>(
     ensures still { result ≡ None → (front.new ≡ front.old) × (shadows.new ≡ shadows.old) × (merge.new ≡ merge.old) }
     ensures runs { HaveWindows D.lends geometry.now buffers.now.lasts own incoming sample → result ≡ None → ⊥ }
 {
-    let mut bytes = [0u8; FRONT_ROOM];
     let width = geometry.format.width();
     let len = shadow_of(shadows, level).len;
     let cells = (cells_of_room(geometry, level, len) as usize).min(FRONT_ROOM / width);
@@ -571,6 +567,7 @@ impl<D: Device> RunStore<D> {
             &self.buffers,
             &self.geometry,
             &mut self.shadows,
+            &mut self.room,
             level,
             own,
             incoming,

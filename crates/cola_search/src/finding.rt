@@ -7,7 +7,7 @@ ghost use Rattle.cola_search.specs.Finds.{FindsOn};
 
 use arrayvec::ArrayVec;
 use cola_cell::{CellSource, Item, Key, MOST_LEVELS, ReadFault, Run};
-use cola_look::seek;
+use cola_look::{Sight, seek_into};
 use cola_outside::Steps;
 use std::sync::ledger::Ledger;
 
@@ -26,13 +26,15 @@ pub fn find<W: CellSource, L: Ledger>(
         runs.now key.now steps.old steps.new result }
 {
     let runs = runs.as_slice();
+    let mut sight = Sight::blank();
     let mut start = 0;
     for (i, run) in runs.iter().enumerate() {
-        let seat = seek(work, run, length_at(runs, i + 1), start, key, steps)?;
-        if seat.hit.is_some() {
-            return Ok(seat.hit);
+        let next_len = length_at(runs, i + 1);
+        seek_into(work, run, next_len, start, key, &mut sight, steps)?;
+        if sight.hit.is_some() {
+            return Ok(sight.hit);
         }
-        start = seat.link;
+        start = sight.link;
     }
     Ok(None)
 }

@@ -1,7 +1,5 @@
 use Rattle.std.proofs.Common.{◌≡◌, true, false, refl, sym, subst, ◌∙◌, arith}
-use Rattle.cola_cell.specs.Held.{Held}
-use Rattle.cola_look.proofs.Looking.{looks_as, looks_then}
-use Rattle.cola_check.specs.Beside.{StepsBeside}
+use Rattle.cola_check.proofs.Common.{Held, looks_as, looks_then, StepsBeside}
 use Rattle.cola_check.proofs.Carrying.{going_begins, going_on, going_ends, going_fails, going_less, fits_nothing, carried_each, each_carried}
 use Rattle.cola_check.proofs.Fronts.{turns_then}
 use Rattle.cola_check.proofs.RunBlocks.{apart-stays}

@@ -1,9 +1,7 @@
 use Rattle.std.proofs.Common.{◌+◌, ◌≤◌}
-use Rattle.cola_check.specs.Walks.{Turns, ahead}
-use Rattle.cola_check.specs.Carrying.{FitsAt}
-use Rattle.cola_check.specs.Beside.{all_unread, ReadApart, beside_blocks, three_blocks}
+use Rattle.cola_check.proofs.Common.{Turns, ahead, FitsAt, ReadApart, beside_blocks, three_blocks, Looked}
+use Rattle.cola_check.specs.Beside.{all_unread}
 use Rattle.cola_check.proofs.Carrying.{IsGoing}
-use Rattle.cola_look.proofs.Looking.{Looked}
 use Rattle.cola_check.proofs.carried.is_carried.Given as goal
 
 abbrev pub invariant-loop-key : goal.invariant-loop-key

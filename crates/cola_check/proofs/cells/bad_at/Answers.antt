@@ -1,4 +1,4 @@
-use Rattle.cola_cell.specs.declared.cell.Reader.TheVariants.{Own}
+use Rattle.cola_check.proofs.Common.{Own}
 use Rattle.cola_check.proofs.RunBlocks.{read-goes}
 use Rattle.cola_check.proofs.cells.bad_at.Goals as goal
 

@@ -1,7 +1,5 @@
 use Rattle.std.proofs.Common.{arith}
-use Rattle.cola_cell.specs.declared.cell.Reader.TheVariants.{Own}
-use Rattle.cola_cell.proofs.CostsLemmas.{costs_then}
-use Rattle.cola_look.proofs.Looking.{looks_then}
+use Rattle.cola_check.proofs.Common.{Own, costs_then, looks_then}
 use Rattle.cola_check.proofs.BadRuns.{told-on, finds-bad}
 use Rattle.cola_check.proofs.RunBlocks.{goes-few}
 use Rattle.cola_check.proofs.cells.bad_in_run.Goals as goal

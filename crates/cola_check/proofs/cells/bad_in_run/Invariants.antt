@@ -1,9 +1,4 @@
-use Rattle.cola_cell.specs.Costs.{Costs}
-use Rattle.cola_cell.specs.Held.{IsTelling}
-use Rattle.cola_cell.specs.ToldCells.{AreTold}
-use Rattle.cola_cell.specs.declared.cell.Reader.TheVariants.{Own}
-use Rattle.cola_check.specs.Blocks.{GoesOn}
-use Rattle.cola_look.proofs.Looking.{Looked}
+use Rattle.cola_check.proofs.Common.{Costs, IsTelling, AreTold, Own, GoesOn, Looked}
 use Rattle.cola_check.proofs.cells.bad_in_run.Given as goal
 
 abbrev pub invariant-loop-index : goal.invariant-loop-index

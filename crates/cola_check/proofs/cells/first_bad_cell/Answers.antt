@@ -1,8 +1,5 @@
 use Rattle.std.proofs.Common.{rules, Option, subst, arith, below_more}
-use Rattle.cola_cell.specs.Held.{Held}
-use Rattle.cola_cell.proofs.CostsLemmas.{costs_then, costs_within}
-use Rattle.cola_look.proofs.Looking.{looks_then}
-use Rattle.cola_check.specs.BadCells.{AreRunsTold, FindsAt, level_cells}
+use Rattle.cola_check.proofs.Common.{Held, costs_then, costs_within, looks_then, AreRunsTold, FindsAt, level_cells}
 use Rattle.cola_check.proofs.BadRuns.{some-cells, file-finds}
 use Rattle.cola_check.proofs.RunBlocks.{blocks-then, blocks-within}
 use Rattle.cola_check.proofs.cells.first_bad_cell.Goals as goal

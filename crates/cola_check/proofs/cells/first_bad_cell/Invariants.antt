@@ -1,9 +1,5 @@
 use Rattle.std.proofs.Common.{◌+◌, ◌<◌, ◌≤◌, ℕ}
-use Rattle.cola_cell.specs.Costs.{Costs}
-use Rattle.cola_cell.specs.Held.{IsTelling}
-use Rattle.cola_check.specs.Blocks.{blocks_above}
-use Rattle.cola_check.specs.BadCells.{AreRunsTold, cells_above}
-use Rattle.cola_look.proofs.Looking.{Looked}
+use Rattle.cola_check.proofs.Common.{Costs, IsTelling, blocks_above, AreRunsTold, cells_above, Looked}
 use Rattle.cola_check.proofs.cells.first_bad_cell.Given as goal
 
 abbrev pub invariant-loop-level : goal.invariant-loop-level

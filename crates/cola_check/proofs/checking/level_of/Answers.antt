@@ -1,6 +1,6 @@
 -- The level is the number's where the loop ends.
 use Rattle.std.proofs.Common.{◌≡◌, ◌+◌, ◌*◌, ◌%◌, ◌^◌, ◌<◌, ◌≤◌, arith}
-use Rattle.std.proofs.lemmas.Nat.{one_shl}
+use Rattle.cola_check.proofs.Common.{one_shl}
 use Rattle.cola_check.proofs.Judging.{not-behind, not-before}
 use Rattle.cola_check.proofs.checking.level_of.Goals as goal
 

@@ -1,7 +1,6 @@
 -- What the tests of a store's cells answer and spend.
 use Rattle.std.proofs.Common.{◌≡◌, ℕ, ◌-◌, List, Option, is_some, true, refl, sym, ap, subst, ◌∙◌, arith}
-use Rattle.cola_cell.specs.Held.{Fixed}
-use Rattle.cola_layout.specs.declared.geometry.Geometry.{Geometry}
+use Rattle.cola_check.proofs.Common.{Fixed, Geometry}
 use Rattle.cola_run.specs.Store.{state_of, cells_of}
 use Rattle.cola_run.proofs.Spots.{told-there}
 use Rattle.cola_check.proofs.Judging.{by-cells, by-load, tells-all}

@@ -1,6 +1,6 @@
 -- A merge follows a run.
 use Rattle.std.proofs.Common.{◌≡◌, refl, ◌∙◌, arith}
-use Rattle.cola_merge.proofs.Reading.{err_is}
+use Rattle.cola_check.proofs.Common.{err_is}
 use Rattle.cola_check.proofs.Cuts.{following_none, pull_stops, pull_ends, read_stops, cells_differ, follows_on, follows_all, differ_by}
 use Rattle.cola_check.proofs.RunBlocks.{along-none, merge-along, run-along, along-ends}
 use Rattle.cola_check.proofs.cut.gives_run.Goals as goal

@@ -1,6 +1,6 @@
 -- The cells of the run up to the index were given.
 use Rattle.std.proofs.Common.{◌≡◌}
-use Rattle.cola_check.specs.Cut.{IsAway}
+use Rattle.cola_check.proofs.Common.{IsAway}
 use Rattle.cola_check.proofs.RunBlocks.{AlongReadsOn}
 use Rattle.cola_check.proofs.Cuts.{Following}
 use Rattle.cola_check.proofs.cut.gives_run.Given as goal

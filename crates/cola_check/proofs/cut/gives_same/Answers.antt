@@ -1,6 +1,6 @@
 -- Two merges are compared.
 use Rattle.std.proofs.Common.{refl, ◌∙◌}
-use Rattle.cola_merge.proofs.Reading.{err_is}
+use Rattle.cola_check.proofs.Common.{err_is}
 use Rattle.cola_check.proofs.Cuts.{differ_by, comparing_none, first_stops, second_stops, second_ends, both_differ, compares_on, first_ends, fewer_given}
 use Rattle.cola_check.proofs.RunBlocks.{both-none, both-on, both-end}
 use Rattle.cola_check.proofs.cut.gives_same.Goals as goal

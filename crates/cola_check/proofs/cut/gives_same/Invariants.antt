@@ -1,8 +1,6 @@
 -- Both merges gave the same cells.
 use Rattle.std.proofs.Common.{◌≡◌, ◌+◌, ◌-◌}
-use Rattle.cola_merge.specs.Feeds.{feed_len}
-use Rattle.cola_merge.specs.Heads.{consumed}
-use Rattle.cola_check.specs.Cut.{IsSpread}
+use Rattle.cola_check.proofs.Common.{feed_len, consumed, IsSpread}
 use Rattle.cola_check.proofs.Cuts.{Comparing}
 use Rattle.cola_check.proofs.RunBlocks.{BothReadOn}
 use Rattle.cola_check.proofs.cut.gives_same.Given as goal

@@ -1,9 +1,6 @@
 -- The two passes of the test.
 use Rattle.std.proofs.Common.{true, false, sym, subst}
-use Rattle.cola_cell.specs.Held.{Held}
-use Rattle.cola_merge.specs.declared.merging.Merger.{Merger}
-use Rattle.cola_merge.specs.Heads.{HasHeads}
-use Rattle.cola_merge.proofs.Reading.{err_is}
+use Rattle.cola_check.proofs.Common.{Held, Merger, HasHeads, err_is}
 use Rattle.cola_check.proofs.Cuts.{heads_at, heads_fresh, from_fresh, from_cursors, first_fails, first_differs, second_tells}
 use Rattle.cola_check.proofs.RunBlocks.{cut-differs, cut-compared}
 use Rattle.cola_check.proofs.cut.is_cut.Goals as goal

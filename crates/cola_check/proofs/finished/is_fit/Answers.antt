@@ -1,7 +1,5 @@
 use Rattle.std.proofs.Common.{Bool, not, ap, subst, arith}
-use Rattle.cola_cell.proofs.CostsLemmas.{costs_within}
-use Rattle.cola_check.specs.Firsts.{AreFewAt}
-use Rattle.cola_merge.proofs.Reading.{err_is}
+use Rattle.cola_check.proofs.Common.{costs_within, AreFewAt, err_is}
 use Rattle.cola_check.proofs.ShadowTests.{fit-ticks, next-runs, fit-cause, fit-answer}
 use Rattle.cola_check.proofs.FileBlocks.{fit-blocks}
 use Rattle.cola_check.proofs.finished.is_fit.Goals as goal

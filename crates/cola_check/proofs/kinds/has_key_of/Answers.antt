@@ -1,7 +1,5 @@
-use Rattle.std.proofs.Common.{◌≡◌, sym, ap, ◌∙◌}
-use Rattle.std.specs.Ordering.{is_eq}
-use Rattle.cola_cell.specs.Cell.{key_of}
-use Rattle.cola_cell.specs.Order.{key_cmp}
+use Rattle.std.proofs.Common.{◌≡◌, sym, ap, ◌∙◌, is_eq}
+use Rattle.cola_check.proofs.Common.{key_of, key_cmp}
 use Rattle.cola_check.proofs.LeastKeys.{key_same, same_key, itself_equal}
 use Rattle.cola_check.proofs.kinds.has_key_of.Goals as goal
 

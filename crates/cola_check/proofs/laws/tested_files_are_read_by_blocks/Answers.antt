@@ -1,6 +1,5 @@
-use Rattle.std.proofs.Common.{List, ℕ, Option, subst, arith}
-use Rattle.std.specs.Prelude.{IfSome}
-use Rattle.cola_check.specs.Check.{HasVerdict}
+use Rattle.std.proofs.Common.{List, ℕ, Option, subst, arith, IfSome}
+use Rattle.cola_check.proofs.Common.{HasVerdict}
 use Rattle.cola_check.proofs.Judging.{eighty}
 use Rattle.cola_check.proofs.laws.tested_files_are_read_by_blocks.Goals as goal
 

@@ -1,5 +1,4 @@
-use Rattle.std.proofs.Common.{◌-◌, sym, ◌∙◌, arith}
-use Rattle.std.proofs.lemmas.Bool.{true≢false}
+use Rattle.std.proofs.Common.{◌-◌, sym, ◌∙◌, arith, true≢false}
 use Rattle.cola_check.proofs.LeastKeys.{away-above}
 use Rattle.cola_check.proofs.leasts.first_with.Goals as goal
 

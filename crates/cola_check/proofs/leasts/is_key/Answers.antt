@@ -1,8 +1,6 @@
-use Rattle.std.proofs.Common.{◌≡◌, Some, sym, ap, ◌∙◌}
-use Rattle.std.specs.Ordering.{is_eq}
-use Rattle.cola_cell.specs.Order.{key_cmp}
+use Rattle.std.proofs.Common.{◌≡◌, Some, sym, ap, ◌∙◌, is_eq}
+use Rattle.cola_check.proofs.Common.{key_cmp, same_Some}
 use Rattle.cola_check.proofs.LeastKeys.{same_key, itself_equal}
-use Rattle.cola_check.proofs.Prefixes.{some-same}
 use Rattle.cola_check.proofs.leasts.is_key.Goals as goal
 
 pub returns-in-Some : goal.returns-in-Some
@@ -11,5 +9,5 @@ returns-in-Some c =
     let key = c.args.key.now in
     let is : c.is_eq.result ≡ is_eq (key_cmp least key) = c.is_eq.ensures ∙ ap is_eq c.cmp.ensures in (
       λ t. c.in-Some.is ∙ ap Some (same_key least key (sym is ∙ t)),
-      λ e. is ∙ ap (λ k. is_eq (key_cmp k key)) (some-same least key (sym c.in-Some.is ∙ e)) ∙ itself_equal key,
+      λ e. is ∙ ap (λ k. is_eq (key_cmp k key)) (same_Some least key (sym c.in-Some.is ∙ e)) ∙ itself_equal key,
     )

@@ -1,5 +1,5 @@
 use Rattle.std.proofs.Common.{◌-◌, length, sym, ◌∙◌, arith}
-use Rattle.std.proofs.lemmas.Bool.{eqb-false}
+use Rattle.cola_check.proofs.Common.{eqb-false}
 use Rattle.cola_check.proofs.LeastKeys.{last-is}
 use Rattle.cola_check.proofs.leasts.least_of.Goals as goal
 

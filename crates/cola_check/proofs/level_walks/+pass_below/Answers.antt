@@ -1,5 +1,5 @@
 use Rattle.std.proofs.Common.{rules, ◌-◌, ◌<◌, refl, subst, arith}
-use Rattle.cola_check.specs.Leasts.{AreAwayFrom}
+use Rattle.cola_check.proofs.Common.{AreAwayFrom}
 use Rattle.cola_check.proofs.LeastKeys.{away-below, stays-then}
 use Rattle.cola_check.proofs.level_walks.+pass_below.Goals as goal
 

@@ -1,11 +1,6 @@
 use Rattle.std.proofs.Common.{rules, ◌≡◌, ℕ, ◌+◌, false, [], ◌∷◌, get_or, None, subst, arith}
+use Rattle.cola_check.proofs.Common.{get_or_default, Held, looks_then, LevelRuns, PassCause, runs_of, BeginsLevel, StandsAt}
 use Rattle.std.proofs.lemmas.Grind.{common_steps}
-use Rattle.std.proofs.lemmas.List.{get_or_default}
-use Rattle.cola_cell.specs.Held.{Held}
-use Rattle.cola_look.proofs.Looking.{looks_then}
-use Rattle.cola_check.specs.declared.level_walks.LevelRuns.{LevelRuns}
-use Rattle.cola_check.specs.Reading.{PassCause}
-use Rattle.cola_check.specs.LevelWalks.{runs_of, BeginsLevel, StandsAt}
 use Rattle.cola_check.proofs.RunBlocks.{stands-at, began-one, blocks-taken}
 use Rattle.cola_check.proofs.Levels.{each_next, length_push, begun_one, refused, cause_later, level_bad}
 use Rattle.cola_check.proofs.Fronts.{turns_then}

@@ -1,7 +1,5 @@
 use Rattle.std.proofs.Common.{◌≡◌, ◌+◌, ◌≤◌, take, drop, length}
-use Rattle.cola_check.specs.Walks.{Turns}
-use Rattle.cola_check.specs.LevelWalks.{runs_of, cells_in, all_unread, Each, BeginsLevel, StandFrom, blocks_of, all_left}
-use Rattle.cola_look.proofs.Looking.{Looked}
+use Rattle.cola_check.proofs.Common.{Turns, runs_of, cells_in, all_unread, Each, BeginsLevel, StandFrom, blocks_of, all_left, Looked}
 use Rattle.cola_check.proofs.level_walks.begin_all.Given as goal
 
 abbrev pub invariant-loop-i : goal.invariant-loop-i

@@ -1,16 +1,9 @@
-use Rattle.std.proofs.Common.{rules, ◌↔◌, ℕ, List, Option, None, IsTrue, sym, ap, subst, ◌∙◌, length, arith}
-use Rattle.std.specs.List.{AllByRecursion, refill}
-use Rattle.cola_cell.specs.Held.{Held}
-use Rattle.cola_look.proofs.Looking.{looks_as, looks_then}
-use Rattle.cola_check.specs.declared.level_walks.LevelWalks.{LevelWalks}
-use Rattle.cola_check.specs.Reading.{PassCause}
-use Rattle.cola_check.specs.LevelWalks.{runs_of, cells_in, runs_in, LevelFits, IsLevelReady, all_ahead, ReadFrom}
-use Rattle.cola_check.specs.Tally.{IsWithin, visible_said, counted}
+use Rattle.std.proofs.Common.{rules, ◌+◌, ◌≤◌, ◌↔◌, ℕ, List, Option, None, IsTrue, sym, ap, subst, ◌∙◌, length, arith}
+use Rattle.cola_check.proofs.Common.{AllByRecursion, refill, Held, looks_as, looks_then, LevelWalks, PassCause, runs_of, cells_in, runs_in, LevelFits, IsLevelReady, all_ahead, ReadFrom, IsWithin, visible_said, counted, all_unread}
+use Rattle.cola_check.proofs.Common.{all_left, FirstStay, AreLeasts, AreFirstLeasts, AreAwayFrom}
 use Rattle.cola_check.proofs.RunBlocks.{read-from, read-from_stays}
 use Rattle.cola_check.proofs.Levels.{refused, cause_later}
-use Rattle.cola_check.proofs.LiveKeys.{has_rooms, all_fit, all_ready, bad_of_levels, few_cells, counting_begins, counting_on, counting_less, counting_same, counting_many, counting_ends, stamped_ends}
-use Rattle.cola_check.proofs.LiveKeys.{refilled_passes, refilled_unread, refilled_blocks, refilled_stay}
-use Rattle.cola_check.specs.Leasts.{AreLeasts, AreFirstLeasts, AreAwayFrom}
+use Rattle.cola_check.proofs.LiveKeys.{has_rooms, all_fit, all_ready, bad_of_levels, few_cells, counting_begins, counting_on, counting_less, counting_same, counting_many, counting_ends, stamped_ends, refilled_passes, refilled_as}
 use Rattle.cola_check.proofs.LeastKeys.{leads, leasts-many, kept-on, refilled-leasts}
 use Rattle.cola_check.proofs.Fronts.{turns_then}
 use Rattle.cola_check.proofs.live.count_live.Goals as goal
@@ -71,7 +64,7 @@ lower_all-requires-clause-kept g c =
     let i = c.loop-key.invariant in
     let first = c.first_with-first.result in
     let news = walks_on c.loop-key.walks.items c.pass_below.new.levels in
-    let stay = refilled_stay (g.W.CellSource.state c.loop-key.work).held c.in-Some.key c.pass_below.new.levels first c.as_mut_slice.ensures.value c.in_ok-pass_below.ensures.passes c.in_ok-pass_below.ensures.stay in
+    let stay = refilled_as (g.W.CellSource.state c.loop-key.work).held c.in-Some.key c.pass_below.new.levels c.as_mut_slice.ensures.value c.in_ok-pass_below.ensures.passes (FirstStay first) c.in_ok-pass_below.ensures.stay in
     subst (λ (ls : List (Option (List ℕ))). AreFirstLeasts first None ls c.as_slice-in-Some-3.result.now) (sym c.as_mut_slice-in-Some.ensures.value)
     (subst (AreFirstLeasts first None c.loop-key.leasts.items) (sym c.as_slice-in-Some-3.ensures.value) (kept-on first None c.loop-key.leasts.items c.loop-key.walks.items news i.leasts stay))
 
@@ -88,7 +81,9 @@ loop-key-preserved g c =
     let e = c.as_slice-in-Some-2.ensures.value in
     let news = walks_on c.loop-key.walks.items c.pass_below.new.levels in
     let S : List LevelWalks → Type 0 = λ ws. IsTrue c.count.new.self.stamped ↔ (IsTrue c.loop-key.tally.stamped × IsWithin c.args.last (visible_said ws)) in
-    let left = refilled_unread (g.W.CellSource.state c.loop-key.work).held c.in-Some.key c.pass_below.new.levels c.loop-key.steps c.pass_below.new.steps c.as_mut_slice.ensures.value c.in_ok-pass_below.ensures.passes c.in_ok-pass_below.ensures.reads.unread in
+    let before = g.W.CellSource.state c.loop-key.work in
+    let after = g.W.CellSource.state c.pass_below.new.work in
+    let left = refilled_as before.held c.in-Some.key c.pass_below.new.levels c.as_mut_slice.ensures.value c.in_ok-pass_below.ensures.passes (λ xs ns. c.pass_below.new.steps + all_unread ns ≤ c.loop-key.steps + all_unread xs) c.in_ok-pass_below.ensures.reads.unread in
     record {
       looks = looks_then i.looks c.in_ok-pass_below.ensures.looks;
       turns = turns_then i.turns c.in_ok-pass_below.ensures.reads.turns;
@@ -97,7 +92,8 @@ loop-key-preserved g c =
       blocks = λ at.
           let b = i.blocks at in
           let from = subst (ReadFrom 0) (sym c.as_mut_slice.ensures.value) (i.placed at) in
-          let more = refilled_blocks (g.W.CellSource.state c.loop-key.work).held c.in-Some.key c.pass_below.new.levels c.as_mut_slice.ensures.value c.in_ok-pass_below.ensures.passes (c.in_ok-pass_below.ensures.blocks 0 from) in
+          let more = refilled_as before.held c.in-Some.key c.pass_below.new.levels c.as_mut_slice.ensures.value c.in_ok-pass_below.ensures.passes (λ xs ns. after.spent.turned + all_left after ns ≤ before.spent.turned + all_left before xs)
+          (c.in_ok-pass_below.ensures.blocks 0 from).blocks in
           omega (arith, b, more);
       leasts = refilled-leasts c.loop-key.leasts.items c.lower_all.new.leasts news
           (leasts-many None c.loop-key.leasts.items c.loop-key.walks.items i.leasts ∙ sym i.counting.same ∙ counting_same i.counting c.in-Some.key news (refilled_passes c.in-Some.key c.pass_below.new.levels i.looks.cells_stay c.as_mut_slice.ensures.value c.in_ok-pass_below.ensures.passes))

@@ -1,9 +1,6 @@
 use Rattle.std.proofs.Common.{◌+◌, ◌≤◌, None}
-use Rattle.cola_check.specs.Leasts.{AreLeasts}
-use Rattle.cola_check.specs.Walks.{Turns}
-use Rattle.cola_check.specs.LevelWalks.{runs_of, cells_in, all_unread, all_ahead, StandFrom, blocks_of, ReadFrom, all_left}
+use Rattle.cola_check.proofs.Common.{AreLeasts, Turns, runs_of, cells_in, all_unread, all_ahead, StandFrom, blocks_of, ReadFrom, all_left, Looked}
 use Rattle.cola_check.proofs.LiveKeys.{Counting}
-use Rattle.cola_look.proofs.Looking.{Looked}
 use Rattle.cola_check.proofs.live.count_live.Given as goal
 
 abbrev pub invariant-loop-key : goal.invariant-loop-key

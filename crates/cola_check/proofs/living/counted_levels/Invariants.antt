@@ -1,5 +1,5 @@
 use Rattle.std.proofs.Common.{◌≡◌, length}
-use Rattle.cola_check.specs.Living.{counted_from}
+use Rattle.cola_check.proofs.Common.{counted_from}
 use Rattle.cola_check.proofs.living.counted_levels.Given as goal
 
 abbrev pub invariant-loop-level : goal.invariant-loop-level

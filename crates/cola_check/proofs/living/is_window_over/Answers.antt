@@ -1,4 +1,6 @@
-use Rattle.cola_check.proofs.LiveTests.{clock-fits, none-over, after-over}
+use Rattle.std.proofs.Common.{sym, ◌∙◌}
+use Rattle.cola_check.proofs.LiveTests.{clock-fits, none-over}
+use Rattle.cola_check.proofs.ShadowTests.{in-phase}
 use Rattle.cola_check.proofs.living.is_window_over.Goals as goal
 
 pub returns-then-level-eq0 : goal.returns-then-level-eq0
@@ -8,4 +10,4 @@ pub phase-requires-clause-clock_in_range : goal.phase-requires-clause-clock_in_r
 phase-requires-clause-clock_in_range c = clock-fits c.args.header.now
 
 pub returns-in-After : goal.returns-in-After
-returns-in-After c = after-over c.args.header.now.clock c.args.level c.phase.result c.phase.ensures.value c.in-After.is
+returns-in-After c = sym ((in-phase c.args.header.now.clock c.args.level).after (sym c.phase.ensures.value ∙ c.in-After.is))

@@ -1,10 +1,6 @@
 -- The verdict by the live keys.
 use Rattle.std.proofs.Common.{List, length, arith, sym, ap, subst, ◌∙◌, ◌+◌}
-use Rattle.std.specs.List.{AllByRecursion}
-use Rattle.cola_cell.proofs.CostsLemmas.{costs_within}
-use Rattle.cola_check.specs.declared.level_walks.LevelRuns.{LevelRuns}
-use Rattle.cola_check.specs.LevelWalks.{HasLevel}
-use Rattle.cola_check.specs.Testing.{TestCause}
+use Rattle.cola_check.proofs.Common.{AllByRecursion, costs_within, LevelRuns, HasLevel, TestCause}
 use Rattle.cola_check.proofs.FileBlocks.{counted-stand_all, counted-all}
 use Rattle.cola_check.proofs.Levels.{refused}
 use Rattle.cola_check.proofs.LiveTests.{counted-many, levels-have, counting-cause, finds-verdict, few-counted}

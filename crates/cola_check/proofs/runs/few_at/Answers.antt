@@ -1,9 +1,8 @@
 use Rattle.std.proofs.Common.{◌≡◌, ◌*◌, ◌%◌, ◌^◌, ◌<◌, ◌≤◌, ℕ, Fits, w32, sym, subst, arith}
+use Rattle.cola_check.proofs.Common.{one_shl, power-le}
 use Rattle.std.proofs.Math.Facts.{Fits-of_lt}
-use Rattle.std.proofs.lemmas.Nat.{one_shl}
-use Rattle.cola_layout.proofs.Powers.{power-le}
-use Rattle.cola_check.proofs.runs.few_at.Goals as goal
 use Rattle.cola_check.proofs.runs.few_at.Goals.{then-odd, else-odd}
+use Rattle.cola_check.proofs.runs.few_at.Goals as goal
 
 young-fits : (level : ℕ) → level ≤ 22 → (1 * 2 ^ level) % 2 ^ 32 ≤ 2 ^ 22
 young-fits level low = let is : (1 * 2 ^ level) % 2 ^ 32 ≡ 2 ^ level = one_shl level 32 (omega (arith, low)) in let few : 2 ^ level ≤ 2 ^ 22 = power-le level 22 low in omega (arith, is, few)

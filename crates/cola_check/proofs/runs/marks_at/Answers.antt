@@ -1,8 +1,5 @@
 use Rattle.std.proofs.Common.{◌≡◌, ◌<◌, ◌≤◌, ◌+◌, List, length, get_or, ap, sym, subst, ◌∙◌, arith}
-use Rattle.cola_cell.specs.Places.{slot_size}
-use Rattle.cola_layout.specs.declared.marks.Marks.{Marks}
-use Rattle.cola_layout.specs.Marks.{marks_of, no_marks, numbers_of}
-use Rattle.cola_layout.proofs.Levels.{fits-here, number-at}
+use Rattle.cola_check.proofs.Common.{slot_size, Marks, marks_of, no_marks, numbers_of, fits-here, number-at}
 use Rattle.cola_check.proofs.runs.marks_at.Goals as goal
 
 pub returns : goal.returns

@@ -1,14 +1,5 @@
 use Rattle.std.proofs.Common.{rules, ◌↔◌, ◌≤◌, IsTrue, ap, subst, ◌∙◌, arith}
-use Rattle.cola_cell.specs.declared.cell.Run.{Run}
-use Rattle.cola_cell.specs.Held.{Held}
-use Rattle.cola_cell.specs.Places.{number_of}
-use Rattle.cola_cell.proofs.CostsLemmas.{costs_then, costs_within}
-use Rattle.cola_verdict.specs.declared.verdict.Flaw.TheVariants.{Shadow}
-use Rattle.cola_verdict.specs.declared.verdict.Verdict.TheVariants.{Broken}
-use Rattle.cola_verdict.specs.Tests.{ShadowAt}
-use Rattle.cola_look.proofs.Looking.{looks_then}
-use Rattle.cola_check.specs.Found.{tested_by}
-use Rattle.cola_check.specs.Shadows.{IsReached}
+use Rattle.cola_check.proofs.Common.{Run, Held, number_of, costs_then, costs_within, Shadow, Broken, ShadowAt, looks_then, tested_by, IsReached}
 use Rattle.cola_check.proofs.FileBlocks.{shadow-done, shadows-all}
 use Rattle.cola_check.proofs.BadRuns.{level-in}
 use Rattle.cola_check.proofs.ShadowTests.{one-more, one-fails, more-ticks, some-ticks}

@@ -1,9 +1,7 @@
 use Rattle.std.proofs.Common.{◌+◌, ◌≤◌}
-use Rattle.cola_cell.specs.Costs.{Costs}
-use Rattle.cola_check.specs.Found.{tested_by}
+use Rattle.cola_check.proofs.Common.{Costs, tested_by, Looked}
 use Rattle.cola_check.proofs.FileBlocks.{shadows_to}
 use Rattle.cola_check.proofs.ShadowTests.{PassBehind, ticks_behind}
-use Rattle.cola_look.proofs.Looking.{Looked}
 use Rattle.cola_check.proofs.shadows.test_shadows.Given as goal
 
 abbrev pub invariant-loop-level : goal.invariant-loop-level

@@ -1,6 +1,5 @@
 use Rattle.std.proofs.Common.{◌≡◌, ℕ, suc, ◌-◌, ◌<◌, length, refl, sym, ap, arith}
-use Rattle.std.proofs.lemmas.List.{drop_all}
-use Rattle.cola_check.specs.Tally.{visible_said, shadow_said}
+use Rattle.cola_check.proofs.Common.{drop_all, visible_said, shadow_said}
 use Rattle.cola_check.proofs.LiveKeys.{none_counted, next_has_room, first_stay, visible_next, shadow_next, counted_next}
 use Rattle.cola_check.proofs.tally.add_live.Goals as goal
 

@@ -1,5 +1,5 @@
 use Rattle.std.proofs.Common.{◌≡◌, ◌≤◌, length, take, drop}
-use Rattle.cola_check.specs.Tally.{visible_said, shadow_said, counted}
+use Rattle.cola_check.proofs.Common.{visible_said, shadow_said, counted}
 use Rattle.cola_check.proofs.tally.add_live.Given as goal
 
 -- the levels from an index on are counted, and the counts of those above it stand as they stood

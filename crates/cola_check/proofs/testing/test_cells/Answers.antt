@@ -1,11 +1,9 @@
 -- The verdict where no cell is bad.
 use Rattle.std.proofs.Common.{◌*◌, arith}
-use Rattle.cola_check.specs.Blocks.{all_blocks}
+use Rattle.cola_check.proofs.Common.{all_blocks, costs_then, costs_within, all_cells}
 use Rattle.cola_check.proofs.RunBlocks.{turns-then}
-use Rattle.cola_cell.proofs.CostsLemmas.{costs_then, costs_within}
 use Rattle.cola_check.proofs.After.{of-runs}
 use Rattle.cola_check.proofs.Judging.{all-ticks}
-use Rattle.cola_check.specs.BadCells.{all_cells}
 use Rattle.cola_check.proofs.testing.test_cells.Goals as goal
 
 pub returns-in-None-clause-tests : goal.returns-in-None-clause-tests

@@ -1,7 +1,7 @@
 -- The tests behind those that found nothing.
 use Rattle.std.proofs.Common.{◌*◌, [], ◌∷◌, arith}
-use Rattle.cola_verdict.specs.declared.verdict.Flaw.TheVariants.{Cell, Order, Sample, Length}
-use Rattle.cola_check.specs.Blocks.{all_blocks}
+use Rattle.cola_check.proofs.Common.{Order, Sample, Length, all_blocks}
+use Rattle.cola_verdict.specs.declared.verdict.Flaw.TheVariants.{Cell}
 use Rattle.cola_check.proofs.After.{goes-on}
 use Rattle.cola_check.proofs.RunBlocks.{turns-then}
 use Rattle.cola_check.proofs.testing.test_runs.Goals as goal

@@ -1,7 +1,6 @@
 use Rattle.std.proofs.Common.{◌↔◌, IsTrue, sym, subst, arith}
+use Rattle.cola_check.proofs.Common.{Few, IsFew}
 use Rattle.cola_runs.proofs.Counts.{length_counts}
-use Rattle.cola_check.specs.declared.visible.Few.{Few}
-use Rattle.cola_check.specs.Prefix.{IsFew}
 use Rattle.cola_check.proofs.visible.is_few.Goals as goal
 
 pub returns-in-Items : goal.returns-in-Items

@@ -1,14 +1,6 @@
-use Rattle.std.proofs.Common.{◌≡◌, inr, ◌+◌, ◌≤◌, ℕ, min, List, [], ◌∷◌, IfSome, IsTrue, ◌↔◌, refl, Ok, sym, subst, ◌∙◌, arith}
-use Rattle.std.specs.Option.{option_to_list}
-use Rattle.cola_runs.specs.Cells.{count_looks}
-use Rattle.cola_cell.specs.Held.{Held, LawCell, as_cell}
-use Rattle.cola_cell.specs.Spent.{By, IsGiven}
-use Rattle.cola_cell.specs.declared.cell.Reader.TheVariants.{Own}
-use Rattle.cola_cell.proofs.CostsLemmas.{costs_none, costs_read_then, costs_then, costs_within}
-use Rattle.cola_cell.specs.ToldCells.{cells}
-use Rattle.cola_look.proofs.Looking.{looked_none, looks_read, looks_then}
-use Rattle.cola_check.specs.Prefix.{lists_below, sample_len, sample_reads, Suits, IsSeen}
-use Rattle.cola_check.specs.Reading.{IsRunTold, PassCause}
+use Rattle.std.proofs.Common.{◌≡◌, inr, ◌+◌, ◌≤◌, ℕ, min, List, [], ◌∷◌, IfSome, IsTrue, ◌↔◌, refl, Ok, sym, subst, ◌∙◌, arith, option_to_list}
+use Rattle.cola_check.proofs.Common.{count_looks, Held, LawCell, as_cell, By, IsGiven, Own, costs_none, costs_read_then, costs_then, costs_within, cells, looked_none, looks_read, looks_then, lists_below, sample_len, sample_reads}
+use Rattle.cola_check.proofs.Common.{Suits, IsSeen, IsRunTold, PassCause}
 use Rattle.cola_check.proofs.Levels.{refused, cause_later}
 use Rattle.cola_check.proofs.RunBlocks.{run-most, sample-most, own-read, sample-read}
 use Rattle.cola_check.proofs.Prefixes.{given-at, cells-next, reads-one}

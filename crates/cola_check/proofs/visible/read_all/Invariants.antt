@@ -1,11 +1,6 @@
 use Rattle.std.proofs.Common.{◌≡◌, ◌+◌, ◌≤◌, min, List}
-use Rattle.cola_cell.specs.Costs.{Costs}
-use Rattle.cola_cell.specs.Held.{LawCell}
-use Rattle.cola_check.specs.Blocks.{run_blocks, run_blocks_or}
-use Rattle.cola_cell.specs.ToldCells.{cells}
-use Rattle.cola_check.specs.Prefix.{AreBothTold, lists_below, sample_len, IsSeen}
+use Rattle.cola_check.proofs.Common.{Costs, LawCell, run_blocks, run_blocks_or, cells, AreBothTold, lists_below, sample_len, IsSeen, Looked}
 use Rattle.cola_check.proofs.RunBlocks.{both_left}
-use Rattle.cola_look.proofs.Looking.{Looked}
 use Rattle.cola_check.proofs.visible.read_all.Given as goal
 
 abbrev pub invariant-loop-index : goal.invariant-loop-index

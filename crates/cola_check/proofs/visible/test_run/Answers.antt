@@ -1,6 +1,5 @@
 use Rattle.std.proofs.Common.{[]}
-use Rattle.cola_cell.specs.ToldCells.{run_cells}
-use Rattle.cola_check.specs.Prefix.{lists_below}
+use Rattle.cola_check.proofs.Common.{run_cells, lists_below}
 use Rattle.cola_check.proofs.visible.test_run.Goals as goal
 
 pub returns-clause-order : goal.returns-clause-order

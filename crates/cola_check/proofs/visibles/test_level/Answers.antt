@@ -1,8 +1,5 @@
 use Rattle.std.proofs.Common.{◌+◌, ◌*◌, ◌^◌, ◌≤◌, Bool, sym, subst}
-use Rattle.cola_cell.specs.declared.cell.Run.{Run}
-use Rattle.cola_cell.proofs.CostsLemmas.{costs_within}
-use Rattle.cola_check.specs.Firsts.{AreFewAt}
-use Rattle.cola_check.specs.Prefix.{sample_len}
+use Rattle.cola_check.proofs.Common.{Run, costs_within, AreFewAt, sample_len}
 use Rattle.cola_check.proofs.Prefixes.{below-runs, tests-answer, cause-answer, level-ticks}
 use Rattle.cola_check.proofs.FileBlocks.{visible-blocks}
 use Rattle.cola_check.proofs.RunBlocks.{turns-within}

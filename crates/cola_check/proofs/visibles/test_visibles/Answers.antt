@@ -1,11 +1,5 @@
 use Rattle.std.proofs.Common.{ap, rules, ◌≡◌, ◌+◌, ◌*◌, ◌^◌, ℕ, subst, arith}
-use Rattle.cola_cell.specs.Held.{Held}
-use Rattle.cola_cell.proofs.CostsLemmas.{costs_then, costs_within}
-use Rattle.cola_verdict.specs.Tests.{AreCellsTold}
-use Rattle.cola_look.proofs.Looking.{looks_then}
-use Rattle.cola_check.specs.Blocks.{level_blocks, blocks_below}
-use Rattle.cola_check.specs.Firsts.{AreTestsAt, AreFirstFlaws}
-use Rattle.cola_check.specs.Found.{tested_by}
+use Rattle.cola_check.proofs.Common.{Held, costs_then, costs_within, AreCellsTold, looks_then, level_blocks, blocks_below, AreTestsAt, AreFirstFlaws, tested_by}
 use Rattle.cola_check.proofs.FileBlocks.{visibles-more, visibles-all}
 use Rattle.cola_check.proofs.Prefixes.{next-ticks, all-ticks}
 use Rattle.cola_check.proofs.visibles.test_visibles.Goals as goal

@@ -1,11 +1,6 @@
 use Rattle.std.proofs.Common.{◌+◌, ◌*◌, ◌^◌, ◌≤◌}
-use Rattle.cola_cell.specs.Costs.{Costs}
-use Rattle.cola_verdict.specs.Tests.{AreCellsTold}
-use Rattle.cola_check.specs.Blocks.{blocks_above}
-use Rattle.cola_check.specs.Firsts.{ArePlaced, AreFirstFlaws}
-use Rattle.cola_check.specs.Found.{tested_by}
+use Rattle.cola_check.proofs.Common.{Costs, AreCellsTold, blocks_above, ArePlaced, AreFirstFlaws, tested_by, Looked}
 use Rattle.cola_check.proofs.FileBlocks.{belows}
-use Rattle.cola_look.proofs.Looking.{Looked}
 use Rattle.cola_check.proofs.visibles.test_visibles.Given as goal
 
 abbrev pub invariant-loop-level : goal.invariant-loop-level

@@ -1,4 +1,4 @@
-use Rattle.std.proofs.Common.{false, List, ◌∷◌, [], ◌++◌, map, get_or, None, Result, Ok, Err, refl, sym, ap, subst, ◌∙◌, arith}
+use Rattle.std.proofs.Common.{◌≡◌, false, List, ◌∷◌, [], ◌++◌, map, get_or, Result, Ok, Err, refl, sym, ap, subst, ◌∙◌, arith}
 use Rattle.std.specs.List.{AllByRecursion}
 use Rattle.arrayvec.specs.declared.array_vec.ArrayVec.{ArrayVec}
 use Rattle.cola_cell.specs.declared.cell.Run.{Run}
@@ -11,7 +11,7 @@ use Rattle.cola_look.specs.Outcome.{Found, Answers}
 use Rattle.cola_look.specs.Runs.{HasRun}
 use Rattle.cola_look.specs.Seek.{as_seat, found_in}
 use Rattle.cola_look.specs.declared.seeking.Seat.{Seat}
-use Rattle.cola_cursor.specs.Turning.{sought}
+use Rattle.cola_cursor.specs.Turning.{sought, line_at}
 use Rattle.cola_runs.specs.Search as laws
 use Rattle.cola_look.proofs.Looking.{err_is, looks_as, looks_then, looks_refused}
 use Rattle.cola_cursor.specs.declared.line.Line.{Line}
@@ -31,7 +31,7 @@ loop-i-preserved g c =
     let runs = c.args.runs.now in
     let n = c.loop-i.i in
     let d : Run = record { level = 0; slot = 0; len = 0 } in
-    let line : Line = record { run = get_or runs n d; place = c.in_ok-stop.stop.place; head = None } in
+    let line : Line = line_at (get_or runs n d) c.in_ok-stop.stop.place in
     let seat : Seat = record { pos = c.in_ok-stop.stop.place; hit = c.in_ok-stop.ensures.stops.hit; link = c.in_ok-stop.stop.link } in
     let key = sought c.args.over c.args.key.now in
     let ens = c.in_ok-stop.ensures.stops.seeks in
@@ -39,19 +39,20 @@ loop-i-preserved g c =
     let told : T held = subst T i.looks.cells_stay ens.told in
     let X : Held → Type 0 = λ h. Answers (found_in h (get_or runs n d) c.length_at-next_len.result c.loop-i.start key) as_seat (Ok seat) in
     let exact : X held = subst X i.looks.cells_stay ens.exact in
+    let pushed : c.push.new.self.items ≡ c.loop-i.lines.items ++ line ∷ [] = c.push.ensures.items ∙ ap (λ x. c.loop-i.lines.items ++ x ∷ []) c.at.ensures in
     let A : List Line → Type 0 = λ x. AllByRecursion (LineFits false held) x in
     record {
       looks = looks_then i.looks c.in_ok-stop.ensures.looks;
       reading = reading_then i.reading (reading_of false ens);
-      left = left_more false runs n d c.loop-i.lines.items c.push.new.self.items line c.args.steps.now c.loop-i.steps c.stop_in.new.steps c.loop-i-test.true c.push.ensures.items refl ens.costs.steps_rise i.left;
+      left = left_more false runs n d c.loop-i.lines.items c.push.new.self.items line c.args.steps.now c.loop-i.steps c.stop_in.new.steps c.loop-i-test.true pushed refl ens.costs.steps_rise i.left;
       costs = costs_within (costs_then i.costs ens.costs) (omega arith) (let t = two_at_most c.loop-i.start in omega arith);
       told = told_next held key c.loop-i.start runs d n c.length_at-next_len.result _ (map (λ x. x.place) c.loop-i.lines.items) i.told seat (map (λ x. x.place) c.push.new.self.items) c.loop-i-test.true c.length_at-next_len.ensures exact
-          (ap (map (λ (x : Line). x.place)) c.push.ensures.items ∙ map_append false (λ (x : Line). x.place) c.loop-i.lines.items line);
-      count = length_push false c.loop-i.lines.items c.push.new.self.items line n c.push.ensures.items i.count;
-      begins = ap runs_of c.push.ensures.items ∙ map_append false (λ (x : Line). x.run) c.loop-i.lines.items line ∙ ap (λ z. z ++ get_or runs n d ∷ []) i.begins ∙ sym (taken_more false runs n d c.loop-i-test.true);
-      fit = subst A (sym c.push.ensures.items) (all_append false (LineFits false held) c.loop-i.lines.items line i.fit (line_fits false held line (all_at false (HasRun held) runs n d c.loop-i-test.true c.requires.runs) ens.within refl));
+          (ap (map (λ (x : Line). x.place)) pushed ∙ map_append false (λ (x : Line). x.place) c.loop-i.lines.items line);
+      count = length_push false c.loop-i.lines.items c.push.new.self.items line n pushed i.count;
+      begins = ap runs_of pushed ∙ map_append false (λ (x : Line). x.run) c.loop-i.lines.items line ∙ ap (λ z. z ++ get_or runs n d ∷ []) i.begins ∙ sym (taken_more false runs n d c.loop-i-test.true);
+      fit = subst A (sym pushed) (all_append false (LineFits false held) c.loop-i.lines.items line i.fit (line_fits false held line (all_at false (HasRun held) runs n d c.loop-i-test.true c.requires.runs) ens.within refl));
       places = λ lists r. places_next false held runs lists n d key c.loop-i.start seat c.length_at-next_len.result (map (λ x. x.place) c.loop-i.lines.items) (map (λ x. x.place) c.push.new.self.items) _ r c.loop-i-test.true c.length_at-next_len.ensures told
-          (ap (map (λ (x : Line). x.place)) c.push.ensures.items ∙ map_append false (λ (x : Line). x.place) c.loop-i.lines.items line) (i.places lists r);
+          (ap (map (λ (x : Line). x.place)) pushed ∙ map_append false (λ (x : Line). x.place) c.loop-i.lines.items line) (i.places lists r);
     }
 
 pub returns-in_err-stop-clause-cause : goal.returns-in_err-stop-clause-cause

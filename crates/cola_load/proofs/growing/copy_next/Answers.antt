@@ -1,19 +1,12 @@
 -- What copying the next pair answers.
-use Rattle.std.proofs.Common.{inl, inr, ℕ, ◌+◌, List, Option, Ok, refl, sym, ap, subst, ◌∙◌}
-use Rattle.cola_cell.specs.Held.{Stamped}
-use Rattle.cola_cursor.specs.Standing.{Ahead, TakesNext, IsPassed, none_hidden, answered_key}
+use Rattle.std.proofs.Common.{inr, ℕ, ◌+◌, sym, ap, ◌∙◌}
 use Rattle.cola_device.specs.declared.device.DeviceFault.{DeviceFault}
-use Rattle.cola_load.specs.Filled.{Row}
-use Rattle.cola_load.proofs.Copying.{same-runs, passed-value, next-none, next-stops, next-copied, next-unread, no-header-then, pushed-spends}
+use Rattle.cola_load.proofs.Copying.{next-none, next-stops, next-copied, next-unread, no-header-then, pushed-spends}
 use Rattle.cola_load.proofs.growing.copy_next.Goals as goal
 
 pub returns-in-Ok-None-clause-copies : goal.returns-in-Ok-None-clause-copies
 returns-in-Ok-None-clause-copies g c = λ begun rows copied.
-    let held = (g.W.CellSource.state c.args.work.now).held in
-    let takes = subst (λ (o : Option (List ℕ × List ℕ × ℕ)). (pairs : List (List ℕ × Stamped)) → Ahead held c.args.cursor.now pairs → TakesNext (Ahead (g.W.CellSource.state c.next_stamped.new.work).held c.next_stamped.new.self) pairs (Ok o)) c.in-Ok-None.field-0-is in
-    next-none held (g.W.CellSource.state c.next_stamped.new.work).held c.next_stamped.ensures.looks.cells_stay begun c.args.cursor.now c.next_stamped.new.self
-    (same-runs c.args.cursor.now.falls held (answered_key c.in-Ok-None.field-0) none_hidden c.args.cursor.now.lines.items c.next_stamped.new.self.lines.items c.in-Ok-None.ensures.passes)
-    c.args.loader.now (g.E.Device.bytes c.args.to.now) rows copied (takes c.in-Ok-None.ensures.takes)
+    next-none c.next_stamped.ensures.looks.cells_stay copied c.next_stamped.new.self c.in-Ok-None.field-0 c.in-Ok-None.ensures.passes c.in-Ok-None.ensures.takes c.in-Ok-None.field-0-is
 
 pub returns-in-Err-clause-copies : goal.returns-in-Err-clause-copies
 returns-in-Err-clause-copies g c = λ begun rows copied.
@@ -22,26 +15,11 @@ returns-in-Err-clause-copies g c = λ begun rows copied.
 
 pub returns-then-not-admits-clause-copies : goal.returns-then-not-admits-clause-copies
 returns-then-not-admits-clause-copies g c = λ begun rows copied.
-    let held = (g.W.CellSource.state c.args.work.now).held in
-    let pair = c.in-Ok-Some.pair in
-    let row : Row = record { key = pair.0; value = pair.1; stamp = pair.2 } in
-    let takes = subst (λ (o : Option (List ℕ × List ℕ × ℕ)). (pairs : List (List ℕ × Stamped)) → Ahead held c.args.cursor.now pairs → TakesNext (Ahead (g.W.CellSource.state c.next_stamped.new.work).held c.next_stamped.new.self) pairs (Ok o)) c.in-Ok-Some.field-0-is in
-    let value = λ (found : IsPassed c.args.cursor.now.falls held c.args.cursor.now.lines.items c.next_stamped.new.self.lines.items c.in-Ok-Some.field-0).
-    passed-value c.args.cursor.now.falls c.next_stamped.new.self.falls held (g.W.CellSource.state c.next_stamped.new.work).held (answered_key c.in-Ok-Some.field-0) none_hidden row c.args.cursor.now.lines.items c.next_stamped.new.self.lines.items c.in-Ok-Some.ensures.passes c.next_stamped.ensures.stands.fit
-    (subst (IsPassed c.args.cursor.now.falls held c.args.cursor.now.lines.items c.next_stamped.new.self.lines.items) c.in-Ok-Some.field-0-is found) in
-    next-stops held (g.W.CellSource.state c.next_stamped.new.work).held c.next_stamped.ensures.looks.cells_stay begun c.args.cursor.now c.next_stamped.new.self
-    (same-runs c.args.cursor.now.falls held (answered_key c.in-Ok-Some.field-0) none_hidden c.args.cursor.now.lines.items c.next_stamped.new.self.lines.items c.in-Ok-Some.ensures.passes)
-    c.args.loader.now (g.E.Device.bytes c.args.to.now) rows copied row (value c.in-Ok-Some.ensures.pair) (takes c.in-Ok-Some.ensures.takes) c.args.filling.now c.requires.filling (c.admits.ensures.no c.if-not-admits.true)
+    next-stops c.next_stamped.ensures.looks.cells_stay copied c.next_stamped.new.self c.in-Ok-Some.field-0 c.in-Ok-Some.ensures.passes c.in-Ok-Some.ensures.takes c.in-Ok-Some.pair c.in-Ok-Some.field-0-is
+    c.next_stamped.ensures.stands.fit c.in-Ok-Some.ensures.pair c.args.filling.now c.requires.filling (c.admits.ensures.no c.if-not-admits.true)
 
 pub returns-in-Ok-clause-copies : goal.returns-in-Ok-clause-copies
 returns-in-Ok-clause-copies g c = λ begun rows copied.
-    let held = (g.W.CellSource.state c.args.work.now).held in
-    let pair = c.in-Ok-Some.pair in
-    let row : Row = record { key = pair.0; value = pair.1; stamp = pair.2 } in
-    let takes = subst (λ (o : Option (List ℕ × List ℕ × ℕ)). (pairs : List (List ℕ × Stamped)) → Ahead held c.args.cursor.now pairs → TakesNext (Ahead (g.W.CellSource.state c.next_stamped.new.work).held c.next_stamped.new.self) pairs (Ok o)) c.in-Ok-Some.field-0-is in
-    let value = λ (found : IsPassed c.args.cursor.now.falls held c.args.cursor.now.lines.items c.next_stamped.new.self.lines.items c.in-Ok-Some.field-0).
-    passed-value c.args.cursor.now.falls c.next_stamped.new.self.falls held (g.W.CellSource.state c.next_stamped.new.work).held (answered_key c.in-Ok-Some.field-0) none_hidden row c.args.cursor.now.lines.items c.next_stamped.new.self.lines.items c.in-Ok-Some.ensures.passes c.next_stamped.ensures.stands.fit
-    (subst (IsPassed c.args.cursor.now.falls held c.args.cursor.now.lines.items c.next_stamped.new.self.lines.items) c.in-Ok-Some.field-0-is found) in
     let push = c.in-Ok.ensures in (
       record {
         geometry_is = push.geometry ∙ c.requires.filling.geometry_is ∙ sym c.with.ensures.geometry;
@@ -50,18 +28,11 @@ returns-in-Ok-clause-copies g c = λ begun rows copied.
         key_is = push.key ∙ sym c.with.ensures.key;
       },
       (
-        row,
-        next-copied held (g.W.CellSource.state c.next_stamped.new.work).held c.next_stamped.ensures.looks.cells_stay begun c.args.cursor.now c.next_stamped.new.self
-            (same-runs c.args.cursor.now.falls held (answered_key c.in-Ok-Some.field-0) none_hidden c.args.cursor.now.lines.items c.next_stamped.new.self.lines.items c.in-Ok-Some.ensures.passes)
-            c.args.loader.now (g.E.Device.bytes c.args.to.now) rows copied row (value c.in-Ok-Some.ensures.pair) (takes c.in-Ok-Some.ensures.takes) DeviceFault c.in-Ok.field-0 c.push.new.self (g.E.Device.bytes c.push.new.device) push.pushes push.rows push.key,
+        record { key = c.in-Ok-Some.pair.0; value = c.in-Ok-Some.pair.1; stamp = c.in-Ok-Some.pair.2 },
+        next-copied c.next_stamped.ensures.looks.cells_stay copied c.next_stamped.new.self c.in-Ok-Some.field-0 c.in-Ok-Some.ensures.passes c.in-Ok-Some.ensures.takes c.in-Ok-Some.pair c.in-Ok-Some.field-0-is
+            c.next_stamped.ensures.stands.fit c.in-Ok-Some.ensures.pair DeviceFault c.in-Ok.field-0 c.push.new.self (g.E.Device.bytes c.push.new.device) push.pushes push.rows push.key,
       ),
     )
-
-pub returns-in-Err-clause-writes : goal.returns-in-Err-clause-writes
-returns-in-Err-clause-writes g c = inl refl
-
-pub returns-then-not-admits-clause-writes : goal.returns-then-not-admits-clause-writes
-returns-then-not-admits-clause-writes g c = inl refl
 
 pub returns-in-Ok-clause-writes : goal.returns-in-Ok-clause-writes
 returns-in-Ok-clause-writes g c = (pushed-spends c.args.filling.now c.args.loader.now c.requires.filling (c.admits.ensures.yes c.if-not-admits.false).room c.push.ensures.counts)

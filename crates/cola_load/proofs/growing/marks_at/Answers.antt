@@ -1,4 +1,4 @@
-use Rattle.std.proofs.Common.{◌≡◌, ◌<◌, ◌≤◌, ◌+◌, List, length, get_or, ap, sym, subst, arith}
+use Rattle.std.proofs.Common.{◌≡◌, ◌≤◌, List, get_or, ap, sym, subst, arith}
 use Rattle.cola_cell.specs.Places.{slot_size}
 use Rattle.cola_layout.specs.declared.marks.Marks.{Marks}
 use Rattle.cola_layout.specs.Marks.{marks_of, no_marks}
@@ -9,10 +9,7 @@ pub returns : goal.returns
 returns c =
     let h = c.args.header.now in
     let level = c.args.level in
-    let one : length h.levels.items ≡ h.geometry.bottom + 1 = h.one_each in
-    let low : level ≤ h.geometry.bottom = c.requires in
-    let within : level < length h.levels.items = omega (arith, one, low) in
-    let fits = fits-here h.clock h.levels.items h.marks_fit level within in
+    let fits = fits-here h.clock h.levels.items h.marks_fit level (omega (arith, h.one_each, c.requires)) in
     let is : get_or c.deref.result.now level no_marks ≡ marks_of h.levels.items level = ap (λ (xs : List Marks). get_or xs level no_marks) c.deref.ensures.0 in
     record {
       value = is;

@@ -1,42 +1,24 @@
--- Each look goes on with the search, or ends it.
-use Rattle.std.proofs.Common.{◌+◌, refl, arith}
+-- What the room has makes the seat.
+use Rattle.std.proofs.Common.{sym, subst, Result}
+use Rattle.cola_cell.specs.declared.fault.ReadFault.{ReadFault}
 use Rattle.cola_look.specs.declared.seeking.Seat.{Seat}
-use Rattle.cola_look.proofs.Looking.{err_is, looks_then}
-use Rattle.cola_look.proofs.ScanLemmas.{looked_at, seeking_on, seeks_on, passed_within}
-use Rattle.cola_look.proofs.SeekLemmas.{seeks_refused, seeks_end}
+use Rattle.cola_look.specs.Seeks.{Seeks}
+use Rattle.cola_look.proofs.Looking.{err_is, looked_none, looks_as, looks_refused}
 use Rattle.cola_look.proofs.seeking.seek.Goals as goal
 
-pub returns-in_err-sight-clause-seeks : goal.returns-in_err-sight-clause-seeks
-returns-in_err-sight-clause-seeks g c =
-    let i = c.loop-index.invariant in
-    let fault = c.in_err-sight.field-0.0 in
-    let refused = c.in_err-sight.ensures.looks in
-    let last = c.window-first.ensures.last in
-    seeks_refused fault c.from_residual.result i.seeking i.low (omega (arith, last, c.loop-index-test.true)) i.looks.calm refused.0 refused.1
-    (err_is c.from_residual.result fault c.from_residual.ensures.1)
+pub seek_into-requires : goal.seek_into-requires
+seek_into-requires g c = record { run = c.requires; none = c.blank-sight.ensures }
 
-pub returns-then-sight-clause-seeks : goal.returns-then-sight-clause-seeks
-returns-then-sight-clause-seeks g c =
-    let i = c.loop-index.invariant in
-    let sight = c.in_ok-sight.sight in
-    let seat : Seat = record { pos = c.loop-index.index + sight.passed; hit = sight.hit; link = sight.link } in
-    seeks_on i.seeking i.low c.window-first.ensures.last c.loop-index-test.true c.in_ok-sight.ensures.looks c.if-sight.true seat refl
-
-pub loop-index-preserved : goal.loop-index-preserved
-loop-index-preserved g c =
-    let i = c.loop-index.invariant in
-    let last = c.window-first.ensures.last in
-    let looks = c.in_ok-sight.ensures.looks in
+pub returns-in_err-pos : goal.returns-in_err-pos
+returns-in_err-pos g c =
+    let fault = c.in_err-pos.field-0.0 in
+    let is = err_is c.from_residual.result fault c.from_residual.ensures.1 in
+    let E : Result Seat ReadFault → Type 0 = λ x. Seeks c.args.run.now c.args.next_len c.args.start c.args.key.now (g.W.CellSource.state c.args.work.now) (g.W.CellSource.state c.seek_into.new.work)
+    c.args.steps.now c.seek_into.new.steps x in
     record {
-      looks = looks_then i.looks (looked_at c.look.ensures.kept looks);
-      seeking = seeking_on i.seeking i.low last c.loop-index-test.true looks c.if-sight.false;
-      low = omega (arith, i.low);
-      high = passed_within i.seeking i.low last c.loop-index-test.true looks;
+      looks = looks_refused fault c.from_residual.result looked_none c.in_err-pos.ensures.looks is;
+      seeks = subst E (sym is) c.in_err-pos.ensures.seeks;
     }
 
-pub returns-clause-seeks : goal.returns-clause-seeks
-returns-clause-seeks g c =
-    let i = c.loop-index.invariant in
-    let high = i.high in
-    let last = c.window-first.ensures.last in
-    seeks_end c.seat_at_end.result i.seeking (omega (arith, high, last, c.loop-index-test.false)) c.seat_at_end.ensures
+pub returns : goal.returns
+returns g c = record { looks = looks_as c.in_ok-pos.ensures.looks; seeks = c.in_ok-pos.ensures.seeks }

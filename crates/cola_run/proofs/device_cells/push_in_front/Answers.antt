@@ -10,20 +10,14 @@ pub write_as-requires-clause-within : goal.write_as-requires-clause-within
 write_as-requires-clause-within c =
     let b = c.args.geometry.now.block_exp in
     let sh = shadow_at c.args.shadows.now c.args.level in
-    let slot = c.requires.place.slot_in in
-    let below : number_of c.args.level sh.slot sh.len < 2 ^ (b + 1) = front-below b c.args.level sh.slot sh.len (omega (arith, slot)) c.requires.place.index_in c.requires.level in
     let twice : 2 ^ (b + 1) ≡ 2 ^ b + 2 ^ b = next_power b (b + 1) (omega arith) in
-    let block = c.requires.block in
     let number : c.place.result ≡ number_of c.args.level sh.slot sh.len = c.place.ensures.value ∙ ap (λ (x : Shadow). number_of c.args.level x.slot x.len) c.shadow_of-shadow.ensures in
-    omega (arith, below, twice, block, number)
+    omega (arith, front-below b c.args.level sh.slot sh.len (omega (arith, c.requires.place.slot_in)) c.requires.place.index_in c.requires.level, twice, c.requires.block, number)
 
 pub returns-clause-within : goal.returns-clause-within
 returns-clause-within c =
     let b = c.args.geometry.now.block_exp in
     let sh = shadow_at c.args.shadows.now c.args.level in
-    let slot = c.requires.place.slot_in in
-    let below : number_of c.args.level sh.slot sh.len < 2 ^ (b + 1) = front-below b c.args.level sh.slot sh.len (omega (arith, slot)) c.requires.place.index_in c.requires.level in
     let twice : 2 ^ (b + 1) ≡ 2 ^ b + 2 ^ b = next_power b (b + 1) (omega arith) in
-    let block = c.requires.block in
     let many = c.write_as.ensures.sound.many in
-    omega (arith, below, twice, block, many)
+    omega (arith, front-below b c.args.level sh.slot sh.len (omega (arith, c.requires.place.slot_in)) c.requires.place.index_in c.requires.level, twice, c.requires.block, many)

@@ -15,20 +15,16 @@ use Rattle.cola_run.proofs.device_cells.read_by_buffer.Goals as goal
 
 pub refill_by-requires : goal.refill_by-requires
 refill_by-requires g c =
-    let geometry = c.args.geometry.now in
-    let number = c.args.number in
     let stays = c.turn_to.ensures.stays in
-    let low = geometry.shallow in
-    let powers : 2 ^ (geometry.bottom + 4) ≤ 2 ^ 26 = power-le (geometry.bottom + 4) 26 (omega (arith, low)) in
     let turned = c.block_of.result in
-    let block : turned ≡ number / block_cells geometry = c.block_of.ensures.value in
+    let block : turned ≡ c.args.number / block_cells c.args.geometry.now = c.block_of.ensures.value in
     let there : last_in c.turn_to.new.self.lasts c.args.buffer ≡ Some turned =
     ap (λ (xs : List (Option ℕ)). last_in xs c.args.buffer) c.in-Ok.ensures.ok ∙ get_or-set_same c.args.buffers.now.lasts c.args.buffer (Some turned) None c.requires.buffer in
     let many : length c.turn_to.new.self.lasts ≡ length c.args.buffers.now.lasts = ap (λ (xs : List (Option ℕ)). length xs) c.in-Ok.ensures.ok ∙ length-set c.args.buffers.now.lasts c.args.buffer (Some turned) in
     record {
       buffer = subst (λ (n : ℕ). c.args.buffer < n) (sym many) c.requires.buffer;
       inside = subst (λ (n : ℕ). n < c.turn_to.new.self.many) block (subst (λ (n : ℕ). turned < n) (sym (stays.many ∙ c.requires.many)) c.block_of.ensures.within);
-      small = omega (arith, c.requires.within, powers);
+      small = omega (arith, c.requires.within, power-le (c.args.geometry.now.bottom + 4) 26 (omega (arith, c.args.geometry.now.shallow)));
       held = there ∙ ap (λ (n : ℕ). Some n) block;
       size = stays.size ∙ c.requires.size;
     }
@@ -36,16 +32,14 @@ refill_by-requires g c =
 pub returns-in-Ok-clause-finds : goal.returns-in-Ok-clause-finds
 returns-in-Ok-clause-finds g c =
     let told = g.D.Device.bytes c.args.buffers.now.cache.device in
-    let format = c.args.geometry.now.format in
     let cell : Option Cell = if c.refill_by.result then Some c.refill_by.new.into else None in
-    let same : Finds told format c.args.number (found c.args.number cell) =
-    subst (λ (x : Option (List ℕ)). Finds x format c.args.number (found c.args.number cell)) c.turn_to.ensures.bytes_stay c.refill_by.ensures in
-    subst (λ (x : Result Cell ReadFault). Finds told format c.args.number x) (sym (c.taken_or_bad.ensures c.refill_by.new.into)) same
+    let same : Finds told c.args.geometry.now.format c.args.number (found c.args.number cell) =
+    subst (λ (x : Option (List ℕ)). Finds x c.args.geometry.now.format c.args.number (found c.args.number cell)) c.turn_to.ensures.bytes_stay c.refill_by.ensures in
+    subst (λ (x : Result Cell ReadFault). Finds told c.args.geometry.now.format c.args.number x) (sym (c.taken_or_bad.ensures c.refill_by.new.into)) same
 
 pub returns-in-Ok-clause-turns : goal.returns-in-Ok-clause-turns
 returns-in-Ok-clause-turns g c =
-    let t = c.turn_to.ensures in
     let answer = given c.refill_by.new.into c.taken_or_bad.result in
     subst (λ (n : ℕ). Turns g.D.Device.counts c.args.buffers.now c.turn_to.new.self c.args.buffer n answer) c.block_of.ensures.value
     (turns-found g.D.Device.counts c.args.buffers.now c.turn_to.new.self c.args.buffer c.block_of.result c.args.number (if c.refill_by.result then Some c.refill_by.new.into else None) answer c.in-Ok.field-0
-    c.in-Ok.ensures.counts c.in-Ok.ensures.ok (λ e. (t.same e).0) t.stays (c.taken_or_bad.ensures c.refill_by.new.into))
+    c.in-Ok.ensures.counts c.in-Ok.ensures.ok (λ e. (c.turn_to.ensures.same e).0) c.turn_to.ensures.stays (c.taken_or_bad.ensures c.refill_by.new.into))

@@ -9,9 +9,7 @@ is_there-requires-clause-within c =
     let b = c.args.geometry.now.block_exp in
     let slot = c.requires.slot in
     let most = c.requires.len in
-    let here = c.loop-index-test.true in
-    let below : number_of c.args.level c.args.slot c.loop-index.index < 2 ^ (b + 1) = front-below b c.args.level c.args.slot c.loop-index.index (omega (arith, slot)) (omega (arith, here, most)) c.requires.level in
     let twice : 2 ^ (b + 1) ≡ 2 ^ b + 2 ^ b = next_power b (b + 1) (omega arith) in
     let block = c.requires.block in
     let number = c.place-number.ensures.value in
-    omega (arith, below, twice, block, number)
+    omega (arith, front-below b c.args.level c.args.slot c.loop-index.index (omega (arith, slot)) (omega (arith, c.loop-index-test.true, most)) c.requires.level, twice, block, number)

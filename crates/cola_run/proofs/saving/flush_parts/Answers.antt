@@ -26,12 +26,9 @@ save_tails-requires-clause-shape g c = λ level on unsaved. ends-within c.args.g
 
 pub save_front-requires-clause-many : goal.save_front-requires-clause-many
 save_front-requires-clause-many g c =
-    let b = c.args.geometry.now.block_fits.fits in
-    let more : 2 ^ 2 ≤ file_blocks c.args.geometry.now = power-le 2 (c.args.geometry.now.bottom + 4 - c.args.geometry.now.block_exp) (omega (arith, b)) in
     let first = c.settle.ensures.stays.many in
     let second = c.save_tails.ensures.writing.stays.many in
-    let third = c.requires.many in
-    omega (arith, more, first, second, third)
+    omega (arith, power-le 2 (c.args.geometry.now.bottom + 4 - c.args.geometry.now.block_exp) (omega (arith, c.args.geometry.now.block_fits.fits)), first, second, c.requires.many)
 
 -- what a flush leaves of the cells, and the order of its writes
 abbrev Ends : {D : Type 0} (d : device.Ghosts D) (geometry : Geometry) (front : FrontCells) (first shadows : List Shadow) (tails : List ℕ) (begin now : Blocks D) → Type 0

@@ -33,24 +33,20 @@ returns-in-Ok-turn_to-clause-loaded g c =
     let there : last_in c.turn_to.new.self.lasts 0 ≡ Some 0 = ap (λ (xs : List (Option ℕ)). last_in xs 0) c.in-Ok.ensures.ok ∙ get_or-set_same c.args.buffers.now.lasts 0 (Some 0) None c.requires.buffer in
     let many : 0 < length c.turn_to.new.self.lasts = (let e : length c.turn_to.new.self.lasts ≡ length c.args.buffers.now.lasts = ap (λ (xs : List (Option ℕ)). length xs) c.in-Ok.ensures.ok ∙ length-set c.args.buffers.now.lasts 0 (Some 0) in let b = c.requires.buffer in omega (arith, e, b)) in
     let there_again : last_in c.turn_to-in-Ok.new.self.lasts 0 ≡ Some 1 = ap (λ (xs : List (Option ℕ)). last_in xs 0) c.in-Ok-turn_to.ensures.ok ∙ get_or-set_same c.turn_to.new.self.lasts 0 (Some 1) None many in
-    let same : g.D.Device.bytes c.turn_to.new.self.cache.device ≡ told = c.turn_to.ensures.bytes_stay in
-    let same_again : g.D.Device.bytes c.turn_to-in-Ok.new.self.cache.device ≡ told = c.turn_to-in-Ok.ensures.bytes_stay ∙ same in
     let given : Gives told (width f.format * 0) first =
-    subst (λ (x : Option (List ℕ)). Gives x (width f.format * 0) first) same
+    subst (λ (x : Option (List ℕ)). Gives x (width f.format * 0) first) c.turn_to.ensures.bytes_stay
     (subst (λ (n : ℕ). Gives (g.D.Device.bytes c.turn_to.new.self.cache.device) n first) (none-of f.format c.turn_to.new.self.cache.size) (c.copy.ensures.given 0 there)) in
     let given_again : Gives told (width f.format * f.block) second =
-    subst (λ (x : Option (List ℕ)). Gives x (width f.format * f.block) second) same_again
+    subst (λ (x : Option (List ℕ)). Gives x (width f.format * f.block) second) (c.turn_to-in-Ok.ensures.bytes_stay ∙ c.turn_to.ensures.bytes_stay)
     (subst (λ (n : ℕ). Gives (g.D.Device.bytes c.turn_to-in-Ok.new.self.cache.device) n second) (ap (λ (n : ℕ). 1 * n) size_again ∙ begin-of f.format f.block) (c.copy-in-Ok-turn_to.ensures.given 1 there_again)) in
-    let whole : length first ≡ width f.format * f.block = c.copy.ensures.size ∙ size in
-    let whole_again : length second ≡ width f.format * f.block = c.copy-in-Ok-turn_to.ensures.size ∙ size_again in
     let block : middle.block ≡ f.block = shape.block in
     let lower : IfSome told (λ bytes. (place : ℕ) → 8 ≤ place → place < 0 + f.block → cell_at middle place ≡ decoded f.format (cell_bytes f.format bytes place)) =
-    loaded_told f.format told first middle.cells 0 8 f.block given (omega (arith, whole)) (omega arith)
+    loaded_told f.format told first middle.cells 0 8 f.block given (omega (arith, c.copy.ensures.size ∙ size)) (omega arith)
     (λ place behind within.
     let none : place - 0 ≡ place = omega arith in
     subst (λ (n : ℕ). cell_at middle place ≡ decoded f.format (cell_bytes f.format first n)) (sym none) (c.take_first.ensures.taken place behind (omega (arith, within)))) in
     let upper : IfSome told (λ bytes. (place : ℕ) → f.block ≤ place → place < f.block + f.block → cell_at now place ≡ decoded f.format (cell_bytes f.format bytes place)) =
-    loaded_told f.format told second now.cells f.block f.block f.block given_again (omega (arith, whole_again)) (omega arith)
+    loaded_told f.format told second now.cells f.block f.block f.block given_again (omega (arith, c.copy-in-Ok-turn_to.ensures.size ∙ size_again)) (omega arith)
     (λ place behind within.
     subst (λ (x : Format). cell_at now place ≡ decoded x (cell_bytes x second (place - f.block))) shape.format
     (subst (λ (n : ℕ). cell_at now place ≡ decoded middle.format (cell_bytes middle.format second (place - n))) block

@@ -11,10 +11,7 @@ use Rattle.cola_run.proofs.saving.load_parts.Goals as goal
 
 pub load_front-requires-clause-many : goal.load_front-requires-clause-many
 load_front-requires-clause-many g c =
-    let b = c.args.geometry.now.block_fits.fits in
-    let more : 2 ^ 2 ≤ file_blocks c.args.geometry.now = power-le 2 (c.args.geometry.now.bottom + 4 - c.args.geometry.now.block_exp) (omega (arith, b)) in
-    let third = c.requires.many in
-    omega (arith, more, third)
+    omega (arith, power-le 2 (c.args.geometry.now.bottom + 4 - c.args.geometry.now.block_exp) (omega (arith, c.args.geometry.now.block_fits.fits)), c.requires.many)
 
 pub returns-in-Some-clause-answer : goal.returns-in-Some-clause-answer
 returns-in-Some-clause-answer g c =

@@ -27,17 +27,13 @@ returns-then-shadow-cells_of_block-eq0-clause-sound g c =
 pub block_at-requires : goal.block_at-requires
 block_at-requires g c =
     let geometry = c.args.geometry.now in
-    let front = c.front_levels.ensures.value in
-    let some = c.front_levels.ensures.some in
-    let high : geometry.block_exp ≤ c.args.level + 2 = omega (arith, front, some, c.if-level-front_levels.false) in
-    let low = c.requires.level in
-    let most = c.requires.stands.within in
+    let high : geometry.block_exp ≤ c.args.level + 2 = omega (arith, c.front_levels.ensures.value, c.front_levels.ensures.some, c.if-level-front_levels.false) in
     record {
-      level_in = omega (arith, low);
+      level_in = omega (arith, c.requires.level);
       slot_in = c.requires.stands.slot_in;
       index_in = elim (cases_eq c.args.shadow.len (slot_size c.args.level)) [
         | inl e ↦ absurd (c.if-shadow-cells_of_block-eq0.false (ap (λ (n : ℕ). c.args.shadow.len % n) c.cells_of_block.ensures.value ∙ ap (λ (n : ℕ). n % block_cells geometry) e ∙ (slot-blocks geometry.block_exp c.args.level 0 high).1))
-        | inr d ↦ omega (arith, most, d)
+        | inr d ↦ omega (arith, c.requires.stands.within, d)
       ];
     }
 
@@ -49,12 +45,10 @@ returns-in-Ok-clause-sound g c =
     let geometry = c.args.geometry.now in
     let told = g.D.Device.bytes c.args.buffers.now.cache.device in
     let now = g.D.Device.bytes c.turn_to.new.self.cache.device in
-    let front = c.front_levels.ensures.value in
     let some = c.front_levels.ensures.some in
-    let device : IsOnDevice geometry c.args.level = record { within = c.requires.level; whole = omega (arith, front, some, c.if-level-front_levels.false) } in
+    let device : IsOnDevice geometry c.args.level = record { within = c.requires.level; whole = omega (arith, c.front_levels.ensures.value, some, c.if-level-front_levels.false) } in
     let copy = c.copy.result.now in
     let size : c.turn_to.new.self.cache.size ≡ block_bytes geometry = c.turn_to.ensures.stays.size ∙ c.requires.size in
-    let many : length copy ≡ block_bytes geometry = c.copy.ensures.size ∙ size in
     let there : last_in c.turn_to.new.self.lasts 0 ≡ Some c.block_at.result =
     ap (λ (xs : List (Option ℕ)). last_in xs 0) c.in-Ok.ensures.ok ∙ get_or-set_same c.args.buffers.now.lasts 0 (Some c.block_at.result) None c.requires.buffer in
     let given : Gives now (c.block_at.result * c.turn_to.new.self.cache.size) copy = c.copy.ensures.given c.block_at.result there in
@@ -62,7 +56,7 @@ returns-in-Ok-clause-sound g c =
     subst (λ (x : Option (List ℕ)). Gives x (block_number geometry c.args.level c.args.shadow.slot c.args.shadow.len * block_bytes geometry) copy) c.turn_to.ensures.bytes_stay
     (subst (λ (n : ℕ). Gives now (n * block_bytes geometry) copy) c.block_at.ensures.value (subst (λ (n : ℕ). Gives now (c.block_at.result * n) copy) size given)) in
     sound-filled geometry (record { told = told; shadows = c.args.shadows.now; tails = c.args.tails.now }) (record { told = now; shadows = c.set_shadow-in-Ok.new.shadows; tails = c.put_block.new.self })
-    c.args.level c.args.shadow copy device c.turn_to.ensures.bytes_stay many
+    c.args.level c.args.shadow copy device c.turn_to.ensures.bytes_stay (c.copy.ensures.size ∙ size)
     c.put_block.ensures.put
     (one-again c.args.shadows.now c.set_shadow.new.shadows c.set_shadow-in-Ok.new.shadows c.args.level c.empty_in.result c.args.shadow c.set_shadow.ensures c.set_shadow-in-Ok.ensures)
     c.requires.stands c.requires.saved same

@@ -9,9 +9,7 @@ pub returns : goal.returns
 returns c =
     let h = c.args.header.now in
     let level = c.args.level in
-    let one : length h.levels.items ≡ h.geometry.bottom + 1 = h.one_each in
-    let low : level ≤ h.geometry.bottom = c.requires in
-    let within : level < length h.levels.items = omega (arith, one, low) in
+    let within : level < length h.levels.items = omega (arith, h.one_each, c.requires) in
     let fits = fits-here h.clock h.levels.items h.marks_fit level within in
     let is : get_or c.deref.result.now level no_marks ≡ marks_of h.levels.items level = ap (λ (xs : List Marks). get_or xs level no_marks) c.deref.ensures.0 in
     record {

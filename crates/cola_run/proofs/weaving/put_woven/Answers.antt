@@ -17,15 +17,11 @@ pub put_spelled-requires-clause-within : goal.put_spelled-requires-clause-within
 put_spelled-requires-clause-within c =
     let b = c.args.geometry.now.block_exp in
     let sh = shadow_at c.args.shadows.now c.args.level in
-    let slot = c.requires.slot in
-    let room = c.requires.room in
     let some : 0 < c.args.count = omega (arith, c.if-count-eq0.false) in
     let below : number_of c.args.level sh.slot (sh.len + c.args.count - 1) < 2 ^ (b + 1) =
-    front-below b c.args.level sh.slot (sh.len + c.args.count - 1) (omega (arith, slot)) (omega (arith, room, some)) c.requires.level in
-    let twice : 2 ^ (b + 1) ≡ 2 ^ b + 2 ^ b = next_power b (b + 1) (omega arith) in
-    let block = c.requires.block in
+    front-below b c.args.level sh.slot (sh.len + c.args.count - 1) (omega (arith, c.requires.slot)) (omega (arith, c.requires.room, some)) c.requires.level in
     let number : c.place.result ≡ number_of c.args.level sh.slot sh.len = c.place.ensures.value ∙ ap (λ (x : Shadow). number_of c.args.level x.slot x.len) c.shadow_of-shadow.ensures in
-    omega (arith, below, twice, block, number, some)
+    omega (arith, below, next_power b (b + 1) (omega arith), c.requires.block, number, some)
 
 pub put_spelled-requires-clause-spelled : goal.put_spelled-requires-clause-spelled
 put_spelled-requires-clause-spelled c = subst (λ (f : Format). AreSpelled f c.args.count c.args.cells.now) (sym c.requires.format) c.requires.spelled
@@ -33,12 +29,11 @@ put_spelled-requires-clause-spelled c = subst (λ (f : Format). AreSpelled f c.a
 pub returns : goal.returns
 returns c =
     let sh = shadow_at c.args.shadows.now c.args.level in
-    let put = c.put_spelled.ensures in
     let number : c.place.result ≡ end_number c.args.shadows.now c.args.level = c.place.ensures.value ∙ ap (λ (x : Shadow). number_of c.args.level x.slot x.len) c.shadow_of-shadow.ensures in
     record {
-      placed = λ k h. ap (λ (p : ℕ). cell_at c.put_spelled.new.self (p + k)) (sym number) ∙ put.placed k h
+      placed = λ k h. ap (λ (p : ℕ). cell_at c.put_spelled.new.self (p + k)) (sym number) ∙ c.put_spelled.ensures.placed k h
           ∙ ap (λ (f : Format). Some (standing f (cell_bytes_at f k c.args.cells.now))) c.requires.format;
-      others = λ p d. put.others p (subst (λ (m : ℕ). (p < m) ⊎ (m + c.args.count ≤ p)) (sym number) d);
-      shape = put.shape;
+      others = λ p d. c.put_spelled.ensures.others p (subst (λ (m : ℕ). (p < m) ⊎ (m + c.args.count ≤ p)) (sym number) d);
+      shape = c.put_spelled.ensures.shape;
       shadow = subst (λ (x : Shadow). OneShadow c.args.shadows.now c.set_shadow.new.shadows c.args.level x) (c.longer_by.ensures ∙ ap (λ (x : Shadow). grown c.args.count x) c.shadow_of-shadow.ensures) c.set_shadow.ensures;
     }

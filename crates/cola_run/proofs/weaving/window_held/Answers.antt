@@ -21,7 +21,6 @@ returns g c =
     ap (λ (n : ℕ). last_in c.args.buffers.now.lasts n) c.buffer_of.ensures ∙ c.requires.turned in
     let here : Gives told (block_number geometry run.level run.slot reach.from * block_bytes geometry) copy =
     subst (λ (n : ℕ). Gives told (block_number geometry run.level run.slot reach.from * n) copy) c.requires.size (c.copy.ensures.given (block_number geometry run.level run.slot reach.from) held) in
-    let width_is : c.width.result ≡ width geometry.format = c.width.ensures in
     block_found told geometry reach copy c.cells_in-bytes.result.now c.min-count.result c.requires.whole many (c.copy.ensures.size ∙ c.requires.size) here
     (c.cells_in-bytes.ensures ∙ ap (λ (n : ℕ). part copy (reach.from % n * c.width.result) (c.min-count.result * c.width.result)) c.cells_of_block-block.ensures.value
-    ∙ ap (λ (w : ℕ). part copy (reach.from % block_cells geometry * w) (c.min-count.result * w)) width_is)
+    ∙ ap (λ (w : ℕ). part copy (reach.from % block_cells geometry * w) (c.min-count.result * w)) c.width.ensures)

@@ -12,13 +12,10 @@ window-bytes-requires-clause-within c =
     let run = c.args.reach.run in
     let there = c.requires.there in
     let slot = there.slot_in in
-    let size = there.within in
-    let some = c.requires.some in
-    let below : number_of run.level run.slot (run.len - 1) < 2 ^ (b + 1) = front-below b run.level run.slot (run.len - 1) (omega (arith, slot)) (omega (arith, size, some)) c.requires.level in
     let twice : 2 ^ (b + 1) ≡ 2 ^ b + 2 ^ b = next_power b (b + 1) (omega arith) in
     let block = c.requires.block in
     let number = c.place.ensures.value in
-    omega (arith, below, twice, block, number, some)
+    omega (arith, front-below b run.level run.slot (run.len - 1) (omega (arith, slot)) (omega (arith, there.within, c.requires.some)) c.requires.level, twice, block, number, c.requires.some)
 
 pub returns : goal.returns
 returns c = record {

@@ -1,7 +1,5 @@
 use Rattle.std.proofs.Common.{◌+◌, sym, ap, subst, ◌∙◌}
-use Rattle.std.specs.Option.{option_or}
-use Rattle.cola_verdict.specs.Tests.{OrderAt, SampleAt, LengthAt}
-use Rattle.cola_check.specs.Firsts.{OrderEndsAt, IsAtFirst, FindsFirst}
+use Rattle.cola_check.proofs.Common.{option_or, OrderAt, SampleAt, LengthAt, OrderEndsAt, IsAtFirst, FindsFirst}
 use Rattle.cola_check.proofs.Prefixes.{next-order, run-more}
 use Rattle.cola_check.proofs.firsts.FirstFlaws.with.Goals as goal
 

@@ -1,8 +1,5 @@
 use Rattle.std.proofs.Common.{◌≡◌, ◌≤◌, sym, subst, ◌∙◌, arith}
-use Rattle.cola_cell.specs.Held.{Held}
-use Rattle.cola_look.proofs.Looking.{looks_then}
-use Rattle.cola_check.specs.Tally.{said_of, said_or}
-use Rattle.cola_check.specs.Walks.{unread, found_of, Fetches}
+use Rattle.cola_check.proofs.Common.{Held, looks_then, said_of, said_or, unread, found_of, Fetches}
 use Rattle.cola_check.proofs.Fronts.{unread_behind, has_room, hearing_goes_on, hearing_ends, turns_then}
 use Rattle.cola_check.proofs.RunBlocks.{reads-then}
 use Rattle.cola_check.proofs.level_walks.Heard.hear.Goals as goal

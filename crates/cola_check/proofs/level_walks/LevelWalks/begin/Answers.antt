@@ -1,13 +1,5 @@
 use Rattle.std.proofs.Common.{[], ◌∷◌, sym, ap, subst, arith}
-use Rattle.cola_cell.specs.Held.{Held}
-use Rattle.cola_look.specs.Runs.{HasRun}
-use Rattle.cola_cell.specs.declared.cell.Run.{Run}
-use Rattle.cola_cell.specs.declared.cell.Reader.TheVariants.{Incoming}
-use Rattle.cola_check.specs.declared.level_walks.LevelWalks.{LevelWalks}
-use Rattle.cola_check.specs.declared.tally.Said.TheVariants.{Nothing}
-use Rattle.cola_check.specs.Walks.{unbegun, ReadsOn}
-use Rattle.cola_check.specs.Reading.{PassCause}
-use Rattle.cola_check.specs.LevelWalks.{shadow_run, with_shadow}
+use Rattle.cola_check.proofs.Common.{Held, HasRun, Run, Incoming, LevelWalks, Nothing, unbegun, ReadsOn, PassCause, shadow_run, with_shadow}
 use Rattle.cola_check.proofs.RunBlocks.{level-began}
 use Rattle.cola_check.proofs.Levels.{refused, cause_later, shadow_has, shadow_bad, shadow_cells, none_unread}
 use Rattle.cola_check.proofs.Fronts.{turns_then}

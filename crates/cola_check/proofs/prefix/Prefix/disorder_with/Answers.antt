@@ -1,6 +1,5 @@
 use Rattle.std.proofs.Common.{◌++◌, ◌∷◌, [], Option, sym, subst}
-use Rattle.cola_cell.specs.Held.{as_cell}
-use Rattle.cola_check.specs.Prefix.{OrderIs}
+use Rattle.cola_check.proofs.Common.{as_cell, OrderIs}
 use Rattle.cola_runs.proofs.Deciding.{false_is}
 use Rattle.cola_check.proofs.Prefixes.{order-goes_on, order-ends}
 use Rattle.cola_check.proofs.prefix.Prefix.disorder_with.Goals as goal

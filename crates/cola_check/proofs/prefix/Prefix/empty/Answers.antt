@@ -1,6 +1,5 @@
 use Rattle.std.proofs.Common.{[], Option, refl, sym, subst}
-use Rattle.cola_cell.specs.declared.cell.Cell.{Cell}
-use Rattle.cola_check.specs.Prefix.{IsLast}
+use Rattle.cola_check.proofs.Common.{Cell, IsLast}
 use Rattle.cola_check.proofs.Prefixes.{order-empty, sample-empty}
 use Rattle.cola_check.proofs.prefix.Prefix.empty.Goals as goal
 

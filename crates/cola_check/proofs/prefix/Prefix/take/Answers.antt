@@ -1,8 +1,7 @@
 use Rattle.std.proofs.Common.{◌++◌, ◌∷◌, [], Option, refl, sym, subst, arith, length-append}
-use Rattle.cola_cell.specs.declared.cell.Cell.{Cell}
-use Rattle.cola_cell.specs.Held.{as_cell}
-use Rattle.cola_check.specs.Prefix.{IsLast}
-use Rattle.cola_check.proofs.Prefixes.{looks-more, young-more, sample-more, sample-less}
+use Rattle.cola_check.proofs.Common.{Cell, as_cell, IsLast}
+use Rattle.cola_check.proofs.Prefixes.{sample-more, sample-less}
+use Rattle.cola_runs.proofs.Stepping.{looks_append, young_append}
 use Rattle.cola_check.proofs.prefix.Prefix.take.Goals as goal
 
 pub returns-clause-seen : goal.returns-clause-seen
@@ -12,8 +11,8 @@ returns-clause-seen c = λ lists cells is suits.
     let sampled = c.is_sampled_with-is_sampled.ensures in
     record {
       place_is = let a = is.place_is in let b = length-append cells (one ∷ []) in omega (arith, a, b);
-      looks_is = let a = is.looks_is in let b = looks-more cells (one ∷ []) in let d = c.looks_of.ensures.value in omega (arith, a, b, d);
-      young_is = let a = is.young_is in let b = young-more cells (one ∷ []) in let d = c.young_of.ensures.value in omega (arith, a, b, d);
+      looks_is = let a = is.looks_is in let b = looks_append cells (one ∷ []) in let d = c.looks_of.ensures.value in omega (arith, a, b, d);
+      young_is = let a = is.young_is in let b = young_append cells (one ∷ []) in let d = c.young_of.ensures.value in omega (arith, a, b, d);
       last_is = subst (λ (l : Option Cell). IsLast (cells ++ one ∷ []) l) (sym c.put.ensures) (cells, refl);
       order_is = c.disorder_with-disorder.ensures.order lists cells is;
       sampled_is = (

@@ -1,5 +1,5 @@
 use Rattle.std.proofs.Common.{◌≡◌, length, replicate}
-use Rattle.cola_check.specs.Tally.{no_count}
+use Rattle.cola_check.proofs.Common.{no_count}
 use Rattle.cola_check.proofs.tally.Tally.none.Given as goal
 
 abbrev pub invariant-loop-level : goal.invariant-loop-level

@@ -1,8 +1,6 @@
-use Rattle.std.proofs.Common.{ap, ◌∙◌}
-use Rattle.std.specs.Ordering.{is_eq}
-use Rattle.cola_cell.specs.Cell.{key_of}
+use Rattle.std.proofs.Common.{ap, ◌∙◌, is_eq}
+use Rattle.cola_check.proofs.Common.{key_of, has_key}
 use Rattle.cola_look.proofs.Seats.{swapped}
-use Rattle.cola_check.specs.Walks.{has_key}
 use Rattle.cola_check.proofs.walk.Walk.has_key.Goals as goal
 
 pub returns-in-Some : goal.returns-in-Some

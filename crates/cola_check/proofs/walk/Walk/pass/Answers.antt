@@ -1,8 +1,5 @@
 use Rattle.std.proofs.Common.{◌≡◌, ◌≤◌, sym, subst, ◌∙◌, arith}
-use Rattle.cola_cell.specs.Held.{Held}
-use Rattle.cola_look.proofs.Looking.{looks_then}
-use Rattle.cola_check.specs.declared.walk.Found.{Found}
-use Rattle.cola_check.specs.Walks.{unread, found_or, found_of, Fetches}
+use Rattle.cola_check.proofs.Common.{Held, looks_then, Found, unread, found_or, found_of, Fetches}
 use Rattle.cola_check.proofs.Fronts.{Passing, passing_goes_on, passing_ends, unread_behind, has_room, turns_then}
 use Rattle.cola_check.proofs.RunBlocks.{reads-then}
 use Rattle.cola_check.proofs.walk.Walk.pass.Goals as goal

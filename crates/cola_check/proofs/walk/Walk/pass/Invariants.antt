@@ -1,7 +1,6 @@
 use Rattle.std.proofs.Common.{◌+◌, ◌≤◌}
-use Rattle.cola_check.specs.Walks.{Turns, ReadsOn, unread, ahead}
+use Rattle.cola_check.proofs.Common.{Turns, ReadsOn, unread, ahead, Looked}
 use Rattle.cola_check.proofs.Fronts.{Passing}
-use Rattle.cola_look.proofs.Looking.{Looked}
 use Rattle.cola_check.proofs.walk.Walk.pass.Given as goal
 
 abbrev pub invariant-loop-self : goal.invariant-loop-self

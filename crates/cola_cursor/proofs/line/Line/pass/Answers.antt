@@ -1,11 +1,11 @@
-use Rattle.std.proofs.Common.{◌≤◌, Option, sym, ap, subst, ◌∙◌, arith}
+use Rattle.std.proofs.Common.{inl, ◌≤◌, Option, sym, ap, subst, ◌∙◌, arith}
 use Rattle.cola_cell.specs.declared.cell.Item.{Item}
 use Rattle.std.specs.Option.{option_or}
 use Rattle.cola_cell.specs.Held.{Held}
 use Rattle.cola_look.proofs.Looking.{err_is, looks_as, looks_then, looks_refused}
 use Rattle.cola_cursor.specs.Lines.{left_of}
 use Rattle.cola_cursor.specs.Results.{Fetches}
-use Rattle.cola_cursor.proofs.Fronts.{Passing, passing_goes_on, passing_ends}
+use Rattle.cola_cursor.proofs.Fronts.{Passing, passing_goes_on, passing_ends, value_stays, value_found}
 use Rattle.cola_cursor.proofs.Readings.{reading_then}
 use Rattle.cola_cursor.proofs.Lefts.{left_behind}
 use Rattle.cola_cursor.proofs.line.Line.pass.Goals as goal
@@ -22,11 +22,15 @@ loop-self-preserved g c =
       looks = looks_then i.looks c.in_ok-read_head.ensures.looks;
       reading = reading_then i.reading c.in_ok-read_head.ensures.reading;
       left = let l = i.left in omega arith;
+      first = λ v. inl (value_stays c.args.self.now c.loop-self.self c.loop-self.item c.or-item.result (c.or-item.ensures ∙ ap (option_or c.loop-self.item) c.item.ensures) v (i.first v));
       passing = subst P (sym (c.or-item.ensures ∙ ap (option_or c.loop-self.item) c.item.ensures)) (passing_goes_on c.args.falls i.passing has c.go_behind.ensures.run c.go_behind.ensures.place (subst F i.looks.cells_stay c.in_ok-read_head.ensures.fetches));
     }
 
 pub returns-clause-passes : goal.returns-clause-passes
 returns-clause-passes g c = passing_ends c.args.falls c.loop-self.invariant.passing (sym c.has_key.ensures ∙ c.loop-self-test.false)
+
+pub returns-clause-first : goal.returns-clause-first
+returns-clause-first g c = λ h v. value_found c.args.self.now c.loop-self.self c.loop-self.item c.args.key.now (sym c.has_key.ensures ∙ c.loop-self-test.false) h (c.loop-self.invariant.first v)
 
 pub returns-in_err-read_head-clause-looks : goal.returns-in_err-read_head-clause-looks
 returns-in_err-read_head-clause-looks g c =

@@ -7,16 +7,13 @@ returns-in-Ok-settle-clause-finishes g c = settled-two _ _ _ _ c.settle.ensures.
 
 pub returns-in-Err-clause-finishes : goal.returns-in-Err-clause-finishes
 returns-in-Err-clause-finishes g c =
-    let told = g.D.Device.bytes in
-    settled-so (told c.args.device.now) (told c.write_tails.new.device) (told c.write_tails.new.device) refl c.write_tails.ensures.front_stays
-    (λ x y s rows held. inl (headless-then c.args.self.geometry x y s held.no_header))
+    settled-so _ (g.D.Device.bytes c.write_tails.new.device) _ refl c.write_tails.ensures.front_stays (λ x y s rows held. inl (headless-then c.args.self.geometry x y s held.no_header))
 
 pub returns-clause-finishes : goal.returns-clause-finishes
 returns-clause-finishes g c = settled-so _ _ _ c.settle.ensures.bytes_stay c.write_tails.ensures.front_stays (λ x y s rows held. inl (headless-then c.args.self.geometry x y s held.no_header))
 
 pub returns-in-Err-clause-size_stays : goal.returns-in-Err-clause-size_stays
-returns-in-Err-clause-size_stays g c =
-    settled-so (g.D.Device.bytes c.args.device.now) (g.D.Device.bytes c.write_tails.new.device) (g.D.Device.bytes c.write_tails.new.device) refl c.write_tails.ensures.front_stays (λ x y s. s.size_stays)
+returns-in-Err-clause-size_stays g c = settled-so _ (g.D.Device.bytes c.write_tails.new.device) _ refl c.write_tails.ensures.front_stays (λ x y s. s.size_stays)
 
 pub returns-clause-size_stays : goal.returns-clause-size_stays
 returns-clause-size_stays g c = settled-so _ _ _ c.settle.ensures.bytes_stay c.write_tails.ensures.front_stays (λ x y s. s.size_stays)
@@ -25,8 +22,7 @@ pub returns-in-Ok-settle-clause-size_stays : goal.returns-in-Ok-settle-clause-si
 returns-in-Ok-settle-clause-size_stays g c = settled-two _ _ _ _ c.settle.ensures.bytes_stay c.write_tails.ensures.front_stays c.write_front.ensures.size_stays (λ x y z was next. next ∙ was.size_stays)
 
 pub returns-in-Err-clause-waits : goal.returns-in-Err-clause-waits
-returns-in-Err-clause-waits g c =
-    inl (settled-so (g.D.Device.bytes c.args.device.now) (g.D.Device.bytes c.write_tails.new.device) (g.D.Device.bytes c.write_tails.new.device) refl c.write_tails.ensures.front_stays (λ x y s. s.front_stays))
+returns-in-Err-clause-waits g c = inl (settled-so _ (g.D.Device.bytes c.write_tails.new.device) _ refl c.write_tails.ensures.front_stays (λ x y s. s.front_stays))
 
 pub returns-clause-waits : goal.returns-clause-waits
 returns-clause-waits g c = inl (settled-so _ _ _ c.settle.ensures.bytes_stay c.write_tails.ensures.front_stays (λ x y s. s.front_stays))

@@ -1,10 +1,10 @@
-use Rattle.std.proofs.Common.{◌≡◌, ◌+◌, ◌^◌, ℕ, Ok, refl, ap, subst, arith}
+use Rattle.std.proofs.Common.{◌≡◌, ◌+◌, ◌^◌, ℕ, refl, ap, subst, arith, rules}
 use Rattle.cola_outside.specs.Told.{Both}
 use Rattle.cola_device.specs.declared.device.DeviceFault.{DeviceFault}
 use Rattle.cola_run.proofs.Spots.{both-same}
 use Rattle.cola_load.specs.Filled.{Row}
 use Rattle.cola_load.specs.Loading.{Loading, StaysInFront}
-use Rattle.cola_load.proofs.Rowing.{PutsAmid, amid-begin, amid-below, done-told, called-none, called-within, index-small, next-index, next-called-all, next-done, next-rowed}
+use Rattle.cola_load.proofs.Rowing.{PutsAmid, amid-begin, amid-below, done-told, index-small, next-index, next-called-all, next-done, next-rowed}
 use Rattle.cola_load.proofs.loader.Loader.put_row.Goals as goal
 
 pub loop-height-init : goal.loop-height-init
@@ -19,7 +19,7 @@ loop-height-init g c =
       cells = both-same told (PutsAmid old old row 0) (λ x. amid-begin old row x);
       front = both-same told (StaysInFront old.geometry) (λ x. record { size_stays = refl; front_stays = refl });
       kept_stays = refl;
-      called = called-within (Ok (tt {0})) (g.D.Device.counts c.args.device.now) (g.D.Device.counts c.args.device.now) 0 0 0 _ (omega arith) (called-none (tt {0}) (g.D.Device.counts c.args.device.now));
+      called = search rules;
     }
 
 pub cell_of-cell-requires : goal.cell_of-cell-requires

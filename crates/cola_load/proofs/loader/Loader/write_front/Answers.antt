@@ -1,6 +1,6 @@
-use Rattle.std.proofs.Common.{ℕ, refl}
+use Rattle.std.proofs.Common.{ℕ, Ok, Err, refl}
 use Rattle.cola_device.specs.declared.device.DeviceFault.{DeviceFault}
-use Rattle.cola_load.proofs.Saving.{front-room, finishes-by, refused-by, unsettled-by, stored-size, stored-levels}
+use Rattle.cola_load.proofs.Saving.{front-room, finishes-by, refused-by, stored-size, stored-levels}
 use Rattle.cola_load.proofs.loader.Loader.write_front.Goals as goal
 
 pub store-requires : goal.store-requires
@@ -8,33 +8,27 @@ store-requires g c = front-room (g.D.Device.bytes c.args.device.now) c.self.view
 
 pub returns-in-Err-clause-size_stays : goal.returns-in-Err-clause-size_stays
 returns-in-Err-clause-size_stays g c =
-    stored-size c.encode.new.into (g.D.Device.bytes c.args.device.now) c.self.view_is c.store.ensures.sound c.self.invariant c.encode.array_long c.requires.inside refl
-    c.store.result c.store.ensures.wrote
+    stored-size _ _ c.self.view_is c.store.ensures.sound c.self.invariant c.encode.array_long c.requires.inside refl c.store.result c.store.ensures.wrote
 
 pub returns-in-Ok-settle-clause-size_stays : goal.returns-in-Ok-settle-clause-size_stays
 returns-in-Ok-settle-clause-size_stays g c =
-    stored-size c.encode.new.into (g.D.Device.bytes c.args.device.now) c.self.view_is c.store.ensures.sound c.self.invariant c.encode.array_long c.requires.inside c.settle.ensures.bytes_stay
-    c.store.result c.store.ensures.wrote
+    stored-size _ _ c.self.view_is c.store.ensures.sound c.self.invariant c.encode.array_long c.requires.inside c.settle.ensures.bytes_stay c.store.result c.store.ensures.wrote
 
 pub returns-in-Err-settle-clause-size_stays : goal.returns-in-Err-settle-clause-size_stays
 returns-in-Err-settle-clause-size_stays g c =
-    stored-size c.encode.new.into (g.D.Device.bytes c.args.device.now) c.self.view_is c.store.ensures.sound c.self.invariant c.encode.array_long c.requires.inside c.settle.ensures.bytes_stay
-    c.store.result c.store.ensures.wrote
+    stored-size _ _ c.self.view_is c.store.ensures.sound c.self.invariant c.encode.array_long c.requires.inside c.settle.ensures.bytes_stay c.store.result c.store.ensures.wrote
 
 pub returns-in-Err-clause-levels_stay : goal.returns-in-Err-clause-levels_stay
 returns-in-Err-clause-levels_stay g c =
-    stored-levels c.encode.new.into (g.D.Device.bytes c.args.device.now) c.self.view_is c.store.ensures.sound c.self.invariant c.encode.array_long c.requires.inside refl
-    c.store.result c.store.ensures.wrote
+    stored-levels _ _ c.self.view_is c.store.ensures.sound c.self.invariant c.encode.array_long c.requires.inside refl c.store.result c.store.ensures.wrote
 
 pub returns-in-Ok-settle-clause-levels_stay : goal.returns-in-Ok-settle-clause-levels_stay
 returns-in-Ok-settle-clause-levels_stay g c =
-    stored-levels c.encode.new.into (g.D.Device.bytes c.args.device.now) c.self.view_is c.store.ensures.sound c.self.invariant c.encode.array_long c.requires.inside c.settle.ensures.bytes_stay
-    c.store.result c.store.ensures.wrote
+    stored-levels _ _ c.self.view_is c.store.ensures.sound c.self.invariant c.encode.array_long c.requires.inside c.settle.ensures.bytes_stay c.store.result c.store.ensures.wrote
 
 pub returns-in-Err-settle-clause-levels_stay : goal.returns-in-Err-settle-clause-levels_stay
 returns-in-Err-settle-clause-levels_stay g c =
-    stored-levels c.encode.new.into (g.D.Device.bytes c.args.device.now) c.self.view_is c.store.ensures.sound c.self.invariant c.encode.array_long c.requires.inside c.settle.ensures.bytes_stay
-    c.store.result c.store.ensures.wrote
+    stored-levels _ _ c.self.view_is c.store.ensures.sound c.self.invariant c.encode.array_long c.requires.inside c.settle.ensures.bytes_stay c.store.result c.store.ensures.wrote
 
 pub returns-in-Err-clause-finishes : goal.returns-in-Err-clause-finishes
 returns-in-Err-clause-finishes g c =
@@ -44,9 +38,9 @@ returns-in-Err-clause-finishes g c =
 pub returns-in-Ok-settle-clause-finishes : goal.returns-in-Ok-settle-clause-finishes
 returns-in-Ok-settle-clause-finishes g c =
     finishes-by c.encode.new.into (g.D.Device.bytes c.args.device.now) c.self.view_is c.store.ensures.sound c.self.invariant c.encode.array_long c.requires.inside c.settle.ensures.bytes_stay
-    c.encode.ensures c.header_of.ensures DeviceFault DeviceFault (tt {0}) c.self.inside.rows c.in-Ok.ensures.wrote
+    c.encode.ensures c.header_of.ensures {F = DeviceFault} DeviceFault (tt {0}) (Ok c.self.inside.rows) c.in-Ok.ensures.wrote
 
 pub returns-in-Err-settle-clause-finishes : goal.returns-in-Err-settle-clause-finishes
 returns-in-Err-settle-clause-finishes g c =
-    unsettled-by c.encode.new.into (g.D.Device.bytes c.args.device.now) c.self.view_is c.store.ensures.sound c.self.invariant c.encode.array_long c.requires.inside c.settle.ensures.bytes_stay
-    c.encode.ensures c.header_of.ensures DeviceFault ℕ (tt {0}) c.in-Err-settle.fault c.in-Ok.ensures.wrote
+    finishes-by c.encode.new.into (g.D.Device.bytes c.args.device.now) c.self.view_is c.store.ensures.sound c.self.invariant c.encode.array_long c.requires.inside c.settle.ensures.bytes_stay
+    c.encode.ensures c.header_of.ensures {R = ℕ} DeviceFault (tt {0}) (Err c.in-Err-settle.fault) c.in-Ok.ensures.wrote

@@ -1,5 +1,4 @@
-use Rattle.std.proofs.Common.{refl}
-use Rattle.cola_load.proofs.Placing.{front-same}
+use Rattle.std.proofs.Common.{}
 use Rattle.cola_load.proofs.Saving.{tail-kept, tail-index, tail-saves, tail-front}
 use Rattle.cola_load.proofs.loader.Loader.write_tail_of.Goals as goal
 
@@ -22,6 +21,3 @@ pub returns-clause-front_stays : goal.returns-clause-front_stays
 returns-clause-front_stays g c =
     tail-front c.args.level c.self.view_is c.requires.front c.requires.level c.self.invariant c.len_of_run-len.ensures.value c.cells_of_block.ensures.value
     c.if-len-cells_of_block-eq0.false c.write_tail.result (g.D.Device.bytes c.args.device.now) (g.D.Device.bytes c.write_tail.new.device) c.requires.inside c.write_tail.ensures.wrote
-
-pub returns-then-len-cells_of_block-eq0-clause-front_stays : goal.returns-then-len-cells_of_block-eq0-clause-front_stays
-returns-then-len-cells_of_block-eq0-clause-front_stays g c = front-same c.args.self.now.geometry (g.D.Device.bytes c.args.device.now) (g.D.Device.bytes c.args.device.now) refl

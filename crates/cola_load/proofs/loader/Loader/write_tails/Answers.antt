@@ -1,8 +1,7 @@
-use Rattle.std.proofs.Common.{◌≡◌, ◌+◌, ℕ, ap, subst, arith}
+use Rattle.std.proofs.Common.{◌≡◌, ◌+◌, ℕ, refl, ap, subst, arith}
 use Rattle.cola_outside.specs.Told.{Both}
-use Rattle.cola_run.proofs.Spots.{both-so}
-use Rattle.cola_load.specs.Loading.{Loading, HasSaved, StaysInFront}
-use Rattle.cola_load.proofs.Saving.{saving-front}
+use Rattle.cola_load.specs.Loading.{Loading, HasSaved}
+use Rattle.cola_load.proofs.Saving.{stays-two, settled-so, settled-two}
 use Rattle.cola_load.proofs.loader.Loader.write_tails.Goals as goal
 
 pub returns-clause-saves : goal.returns-clause-saves
@@ -14,8 +13,7 @@ returns-clause-saves g c =
 
 pub returns-in-Err-clause-front_stays : goal.returns-in-Err-clause-front_stays
 returns-in-Err-clause-front_stays g c =
-    saving-front c.args.self.now c.loop-level.level (g.D.Device.bytes c.args.device.now) (g.D.Device.bytes c.loop-level.device) (g.D.Device.bytes c.write_tail_of.new.device) c.loop-level.invariant.saved c.write_tail_of.ensures.front_stays
+    settled-two _ _ _ _ refl c.loop-level.invariant.saved c.write_tail_of.ensures.front_stays (λ x y z was stay. stays-two c.args.self.now.geometry x y z was.stays stay)
 
 pub returns-clause-front_stays : goal.returns-clause-front_stays
-returns-clause-front_stays g c =
-    both-so (g.D.Device.bytes c.args.device.now) (g.D.Device.bytes c.loop-level.device) (HasSaved c.args.self.now c.loop-level.level) (StaysInFront c.args.self.now.geometry) (λ x y was. was.stays) c.loop-level.invariant.saved
+returns-clause-front_stays g c = settled-so _ (g.D.Device.bytes c.loop-level.device) _ refl c.loop-level.invariant.saved (λ x y was. was.stays)

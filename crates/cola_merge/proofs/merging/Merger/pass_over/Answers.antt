@@ -1,20 +1,9 @@
 -- What a pass over windows does, by the kernel and by how its heads went on.
-use Rattle.std.proofs.Common.{◌≡◌, ◌+◌, ◌*◌, ◌≤◌, ◌<◌, ℕ, refl, sym, ap, subst, ◌∙◌, arith}
+use Rattle.std.proofs.Common.{◌*◌, ℕ, refl, ap, subst, ◌∙◌, arith}
 use Rattle.cola_cell.specs.Windows.{views_of}
 use Rattle.cola_window.specs.Windows.{Merged}
-use Rattle.cola_merge.specs.Weaving.{bytes_of, lasts_of, gone, unless_given}
-use Rattle.cola_merge.proofs.Woven.{held_most, given_sums}
+use Rattle.cola_merge.specs.Weaving.{bytes_of, lasts_of, gone}
 use Rattle.cola_merge.proofs.merging.Merger.pass_over.Goals as goal
-
-pub overflow_add-reads : goal.overflow_add-reads
-overflow_add-reads c =
-    let a = c.go-owns.ensures.ticks in
-    let b = c.go-samples.ensures.ticks in
-    let n = held_most c.go-owns.new.self.cell in
-    let m = held_most c.go-samples.new.self.cell in
-    let f = c.merge_windows-taken.ensures.few in
-    let q = c.requires.can.quota in
-    omega (arith, a, b, n, m, f, q)
 
 pub returns-clause-passes : goal.returns-clause-passes
 returns-clause-passes c =
@@ -23,8 +12,7 @@ returns-clause-passes c =
     let w = c.width-width.ensures in
     let a = c.go-owns.ensures.ticks in
     let d = c.go-samples.ensures.ticks in
-    let r = c.reads_of.ensures.value in
-    let i = given_sums c.args.job.now.one _ _ _ _ c.go-incomings.ensures.ticks in
+    let i = c.go-incomings.ensures.ticks in
     record {
       taken = taken;
       merged = subst (λ (x : ℕ). Merged c.args.format c.args.job.now.rules (8 * x) (bytes_of views) (lasts_of views) c.merge_windows-taken.new.room taken) c.at-base.ensures c.merge_windows-taken.ensures.merged;
@@ -36,5 +24,5 @@ returns-clause-passes c =
       stops = c.merge_windows-taken.ensures.stops;
       goes_on = c.merge_windows-taken.ensures.goes_on;
       cells_are = refl;
-      ticks_are = omega (arith, a, d, r, i);
+      ticks_are = omega (arith, a, d, i);
     }

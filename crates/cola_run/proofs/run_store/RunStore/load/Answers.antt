@@ -12,6 +12,7 @@ use Rattle.cola_front.specs.Front.{IsLoaded as IsFrontLoaded}
 use Rattle.cola_run.specs.Loading.{StaySound, AreSavedBelow}
 use Rattle.cola_run.proofs.Heads.{saved-told}
 use Rattle.cola_run.proofs.Sinks.{shape-with}
+use Rattle.cola_run.proofs.Views.{store_of, lent-back}
 use Rattle.cola_run.proofs.run_store.RunStore.load.Goals as goal
 
 -- a fact is one on Ok
@@ -19,14 +20,9 @@ on-both : {T E P Q R : Type 0} (result : Result T E) → (P → Q → R) → OnO
 on-both (Ok x) f p q = f p q
 on-both (Err e) f p q = tt
 
--- the store before a load and after it
-abbrev before : (g : _) (c : goal.After-self-1 g) → Store g.row.D.Denot
-before g c =
-    let i = c.self.inside in
-    record { buffers = i.buffers; geometry = i.geometry; front = i.front; shadows = i.shadows.items.items; tails = i.tails; ticked = i.ticked }
-
+-- the store after a load
 abbrev after : (g : _) (c : goal.After-self-1 g) → Store g.row.D.Denot
-after g c = record (before g c) {
+after g c = record (store_of c.self.inside) {
   buffers = c.load_parts.new.buffers;
   front = c.load_parts.new.front;
   shadows = (with_items c.self.inside.shadows.items c.load_parts.new.shadows).items;
@@ -40,18 +36,14 @@ shadows-are g c = with_items_is c.self.inside.shadows.items c.load_parts.new.sha
 cells : (g : _) (c : goal.After-self-1 g) → AreCells (cells_of (g.D.Device.bytes c.load_parts.new.buffers.cache.device) (after g c))
 cells g c =
     let i = c.self.inside in
-    let told = g.D.Device.bytes in
-    let old = before g c in
+    let old = store_of i in
     let now = after g c in
-    let lower : List Shadow → List ℕ → Lower = lower_of told i.buffers in
-    let lower_now : List Shadow → List ℕ → Lower = lower_of told now.buffers in
+    let lower : List Shadow → List ℕ → Lower = lower_of g.D.Device.bytes i.buffers in
+    let lower_now : List Shadow → List ℕ → Lower = lower_of g.D.Device.bytes now.buffers in
     let stays : StaySound i.geometry (lower old.shadows old.tails) (lower_now now.shadows now.tails) =
-    subst (λ (xs : List Shadow). StaySound i.geometry (lower old.shadows old.tails) (lower_now xs now.tails)) (sym (shadows-are g c))
-    (subst (λ (xs : List Shadow). StaySound i.geometry (lower xs old.tails) (lower_now c.load_parts.new.shadows now.tails)) c.deref_mut.ensures.value c.load_parts.ensures.sound) in
-    let kept = c.load_parts.ensures.shape in
-    let same : IsShape i.geometry i.front now.shadows now.tails = stays.shape i.front c.self.invariant.cells.shape in
+    lent-back (λ xs ys. StaySound i.geometry (lower xs old.tails) (lower_now ys now.tails)) c.deref_mut.ensures.value (shadows-are g c) c.load_parts.ensures.sound in
     record {
-      shape = shape-with kept.format kept.block same;
+      shape = shape-with c.load_parts.ensures.shape.format c.load_parts.ensures.shape.block (stays.shape i.front c.self.invariant.cells.shape);
       backed = stays.backed i.front c.self.invariant.cells.shape c.self.invariant.cells.backed;
     }
 
@@ -70,7 +62,6 @@ returns-clause-loaded g c =
     let now = after g c in
     let shadows : List Shadow = now.shadows in
     let back : shadows ≡ c.load_parts.new.shadows = shadows-are g c in
-    let new = told c.load_parts.new.buffers.cache.device in
     let lower_now : Lower = lower_of told now.buffers shadows now.tails in
     let there_cells = cells g c in
     let geometry : c.args.header.now.geometry ≡ i.geometry = c.requires ∙ ap (λ (s : Store _). s.geometry) (sym c.self.view_is) in
@@ -78,7 +69,7 @@ returns-clause-loaded g c =
     (λ front headed.
     let there : (level : ℕ) → level ≤ i.geometry.bottom → shadow_at shadows level ≡ header_shadow c.args.header.now level = λ level low. ap (λ (xs : List Shadow). shadow_at xs level) back ∙ headed level low in
     let saved : AreSavedBelow i.geometry shadows (i.geometry.bottom + 1) = λ level on below. ap (λ (x : Shadow). x.saved) (there level on.within) in
-    let spots : IfSome new (AreFileSpots i.geometry (held_of told now).spots) =
+    let spots : IfSome (told c.load_parts.new.buffers.cache.device) (AreFileSpots i.geometry (held_of told now).spots) =
     saved-told i.geometry c.load_parts.new.front lower_now there_cells.shape there_cells.backed saved (subst (λ (x : Option (List ℕ)). IfSome x (λ bytes. IsFrontLoaded bytes c.load_parts.new.front)) (sym c.load_parts.ensures.bytes_stay) front) in
     record {
       spots = subst (λ (s : Store _). IfSome (told s.buffers.cache.device) (AreFileSpots c.args.header.now.geometry (held_of told now).spots)) c.self.view_is

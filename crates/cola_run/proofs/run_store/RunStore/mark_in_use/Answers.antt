@@ -17,14 +17,13 @@ fits g block = let large = block-least g block in omega (arith, large)
 pub invariant_of-self : goal.invariant_of-self
 invariant_of-self g c =
     let i = c.self.inside in
-    let told = g.D.Device.bytes in
     let shape = c.self.invariant.cells.shape in
     record {
       cells = record {
         shape = shape;
         backed = subst (λ (x : Option (List ℕ)). IfSome x (IsBacked i.geometry i.shadows.items.items i.tails)) (sym c.settle.ensures.bytes_stay)
             (heads-backed i.geometry shape.block i.shadows.items.items i.tails c.write_byte.result 14 (1 ∷ []) (fits i.geometry shape.block)
-            (told i.buffers.cache.device) (told c.write_byte.new.self.cache.device) c.write_byte.ensures.wrote c.self.invariant.cells.backed);
+            (g.D.Device.bytes i.buffers.cache.device) (g.D.Device.bytes c.write_byte.new.self.cache.device) c.write_byte.ensures.wrote c.self.invariant.cells.backed);
       };
       size = c.settle.ensures.stays.size ∙ c.write_byte.ensures.stays.size ∙ c.self.invariant.size;
       many = c.settle.ensures.stays.many ∙ c.write_byte.ensures.stays.many ∙ c.self.invariant.many;
@@ -34,13 +33,12 @@ invariant_of-self g c =
 pub invariant_of-self-in-Err : goal.invariant_of-self-in-Err
 invariant_of-self-in-Err g c =
     let i = c.self.inside in
-    let told = g.D.Device.bytes in
     let shape = c.self.invariant.cells.shape in
     record {
       cells = record {
         shape = shape;
         backed = heads-backed i.geometry shape.block i.shadows.items.items i.tails c.write_byte.result 14 (1 ∷ []) (fits i.geometry shape.block)
-            (told i.buffers.cache.device) (told c.write_byte.new.self.cache.device) c.write_byte.ensures.wrote c.self.invariant.cells.backed;
+            (g.D.Device.bytes i.buffers.cache.device) (g.D.Device.bytes c.write_byte.new.self.cache.device) c.write_byte.ensures.wrote c.self.invariant.cells.backed;
       };
       size = c.write_byte.ensures.stays.size ∙ c.self.invariant.size;
       many = c.write_byte.ensures.stays.many ∙ c.self.invariant.many;
@@ -50,23 +48,21 @@ invariant_of-self-in-Err g c =
 pub returns-in-Ok-clause-cells_stay : goal.returns-in-Ok-clause-cells_stay
 returns-in-Ok-clause-cells_stay g c =
     let i = c.self.inside in
-    let told = g.D.Device.bytes in
     let shape = c.self.invariant.cells.shape in
     λ l s j.
     ap (λ (x : Option (List ℕ)). spots_of (record { geometry = i.geometry; front = i.front; lower = record { told = x; shadows = i.shadows.items.items; tails = i.tails } }) l s j) c.settle.ensures.bytes_stay
     ∙ heads-spots i.geometry shape.block i.shadows.items.items i.tails c.write_byte.result 14 (1 ∷ []) (fits i.geometry shape.block) i.front
-    (told i.buffers.cache.device) (told c.write_byte.new.self.cache.device) c.write_byte.ensures.wrote c.self.invariant.cells.backed l s j
-    ∙ ap (λ (x : Store _). spots_of (cells_of (told x.buffers.cache.device) x) l s j) c.self.view_is
+    (g.D.Device.bytes i.buffers.cache.device) (g.D.Device.bytes c.write_byte.new.self.cache.device) c.write_byte.ensures.wrote c.self.invariant.cells.backed l s j
+    ∙ ap (λ (x : Store _). spots_of (cells_of (g.D.Device.bytes x.buffers.cache.device) x) l s j) c.self.view_is
 
 pub returns-in-Err-clause-cells_stay : goal.returns-in-Err-clause-cells_stay
 returns-in-Err-clause-cells_stay g c =
     let i = c.self.inside in
-    let told = g.D.Device.bytes in
     let shape = c.self.invariant.cells.shape in
     λ l s j.
     heads-spots i.geometry shape.block i.shadows.items.items i.tails c.write_byte.result 14 (1 ∷ []) (fits i.geometry shape.block) i.front
-    (told i.buffers.cache.device) (told c.write_byte.new.self.cache.device) c.write_byte.ensures.wrote c.self.invariant.cells.backed l s j
-    ∙ ap (λ (x : Store _). spots_of (cells_of (told x.buffers.cache.device) x) l s j) c.self.view_is
+    (g.D.Device.bytes i.buffers.cache.device) (g.D.Device.bytes c.write_byte.new.self.cache.device) c.write_byte.ensures.wrote c.self.invariant.cells.backed l s j
+    ∙ ap (λ (x : Store _). spots_of (cells_of (g.D.Device.bytes x.buffers.cache.device) x) l s j) c.self.view_is
 
 pub returns-in-Ok-clause-settled : goal.returns-in-Ok-clause-settled
 returns-in-Ok-clause-settled g c = settled-by g.D.Device c.settle.result c.write_byte.new.self.cache.device c.settle.new.self.cache.device c.settle.ensures.settled c.settle.ensures.bytes_stay

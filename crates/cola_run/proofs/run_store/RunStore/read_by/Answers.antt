@@ -12,12 +12,13 @@ use Rattle.cola_run.specs.Parts.{Finds}
 use Rattle.cola_run.specs.Turns.{Turns}
 use Rattle.cola_run.proofs.Spots.{tail-is}
 use Rattle.cola_run.proofs.Reading.{reads-memory, reads-device}
+use Rattle.cola_run.proofs.Views.{store_of}
 use Rattle.cola_run.proofs.run_store.RunStore.read_by.Goals as goal
 
 pub returns-then-level-front_levels-clause-reads : goal.returns-then-level-front_levels-clause-reads
 returns-then-level-front_levels-clause-reads g c =
     let i = c.self.inside in
-    let view : Store _ = record { buffers = i.buffers; geometry = i.geometry; front = i.front; shadows = i.shadows.items.items; tails = i.tails; ticked = i.ticked } in
+    let view = store_of i in
     let now : Store _ = record view { ticked = (i.ticked + 1) % 2 ^ 64 } in
     subst (λ (s : Store _). Reads (state_of g.D.Device.bytes g.D.Device.counts s) (state_of g.D.Device.bytes g.D.Device.counts now) (buffer_for c.args.reader c.args.level) c.args.level c.args.slot c.args.index (given c.read_in_front.new.into c.read_in_front.result)) c.self.view_is
     (reads-memory (state_of g.D.Device.bytes g.D.Device.counts view) ((i.ticked + 1) % 2 ^ 64) (buffer_for c.args.reader c.args.level) c.args.level c.args.slot c.args.index (given c.read_in_front.new.into c.read_in_front.result)
@@ -26,7 +27,7 @@ returns-then-level-front_levels-clause-reads g c =
 pub returns-then-has_in_tail-clause-reads : goal.returns-then-has_in_tail-clause-reads
 returns-then-has_in_tail-clause-reads g c =
     let i = c.self.inside in
-    let view : Store _ = record { buffers = i.buffers; geometry = i.geometry; front = i.front; shadows = i.shadows.items.items; tails = i.tails; ticked = i.ticked } in
+    let view = store_of i in
     let now : Store _ = record view { ticked = (i.ticked + 1) % 2 ^ 64 } in
     subst (λ (s : Store _). Reads (state_of g.D.Device.bytes g.D.Device.counts s) (state_of g.D.Device.bytes g.D.Device.counts now) (buffer_for c.args.reader c.args.level) c.args.level c.args.slot c.args.index (given c.read_in_tail.new.into c.read_in_tail.result)) c.self.view_is
     (reads-memory (state_of g.D.Device.bytes g.D.Device.counts view) ((i.ticked + 1) % 2 ^ 64) (buffer_for c.args.reader c.args.level) c.args.level c.args.slot c.args.index (given c.read_in_tail.new.into c.read_in_tail.result)
@@ -35,13 +36,12 @@ returns-then-has_in_tail-clause-reads g c =
 pub returns-clause-reads : goal.returns-clause-reads
 returns-clause-reads g c =
     let i = c.self.inside in
-    let view : Store _ = record { buffers = i.buffers; geometry = i.geometry; front = i.front; shadows = i.shadows.items.items; tails = i.tails; ticked = i.ticked } in
+    let view = store_of i in
     let now : Store _ = record view { buffers = c.read_by_buffer.new.buffers; ticked = (i.ticked + 1) % 2 ^ 64 } in
     let place : IsPlace (i.geometry.bottom + 1) c.args.level c.args.slot c.args.index = subst (λ (s : Store _). IsPlace (s.geometry.bottom + 1) c.args.level c.args.slot c.args.index) (sym c.self.view_is) c.requires in
-    let low : c.args.level < i.geometry.bottom + 1 = place.level_in in
     let front = c.front_levels.ensures.value in
     let some = c.front_levels.ensures.some in
-    let device : IsOnDevice i.geometry c.args.level = record { within = omega (arith, low); whole = omega (arith, front, some, c.if-level-front_levels.false) } in
+    let device : IsOnDevice i.geometry c.args.level = record { within = omega (arith, place.level_in); whole = omega (arith, front, some, c.if-level-front_levels.false) } in
     let shadow : c.shadow_of-shadow.result ≡ shadow_at i.shadows.items.items c.args.level = c.shadow_of-shadow.ensures ∙ ap (λ (xs : List Shadow). shadow_at xs c.args.level) c.deref.ensures.value in
     let outside : is_in_tail (block_cells i.geometry) (shadow_at i.shadows.items.items c.args.level) c.args.slot c.args.index ≡ false =
     ap (λ (x : Shadow). is_in_tail (block_cells i.geometry) x c.args.slot c.args.index) (sym shadow) ∙ sym c.has_in_tail.ensures ∙ c.if-has_in_tail.false in

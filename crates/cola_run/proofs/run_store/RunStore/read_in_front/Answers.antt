@@ -11,27 +11,24 @@ use Rattle.cola_layout.proofs.Places.{front-below}
 use Rattle.cola_layout.proofs.Powers.{next_power}
 use Rattle.cola_run.specs.Store.{Store, held_of}
 use Rattle.cola_run.proofs.Reading.{front-says, front-fits}
+use Rattle.cola_run.proofs.Views.{store_of}
 use Rattle.cola_run.proofs.run_store.RunStore.read_in_front.Goals as goal
 
 pub read_into-requires-clause-within : goal.read_into-requires-clause-within
 read_into-requires-clause-within g c =
-    let i = c.self.inside in
-    let b = i.geometry.block_exp in
+    let b = c.self.inside.geometry.block_exp in
     let slot = c.requires.place.slot_in in
     let low : c.args.level + 2 < b = subst (λ (s : Store _). c.args.level + 2 < s.geometry.block_exp) (sym c.self.view_is) c.requires.front in
-    let below : number_of c.args.level c.args.slot c.args.index < 2 ^ (b + 1) = front-below b c.args.level c.args.slot c.args.index (omega (arith, slot)) c.requires.place.index_in low in
-    let twice : 2 ^ (b + 1) ≡ 2 ^ b + 2 ^ b = next_power b (b + 1) (omega arith) in
-    let block : i.front.block ≡ 2 ^ b = c.self.invariant.cells.shape.front_block in
+    let block : c.self.inside.front.block ≡ 2 ^ b = c.self.invariant.cells.shape.front_block in
     let number = c.place-number.ensures.value in
-    omega (arith, below, twice, block, number)
+    omega (arith, front-below b c.args.level c.args.slot c.args.index (omega (arith, slot)) c.requires.place.index_in low, next_power b (b + 1) (omega arith), block, number)
 
 pub returns : goal.returns
 returns g c =
     let i = c.self.inside in
-    let view : Store _ = record { buffers = i.buffers; geometry = i.geometry; front = i.front; shadows = i.shadows.items.items; tails = i.tails; ticked = i.ticked } in
-    let format : i.front.format ≡ i.geometry.format = c.self.invariant.cells.shape.format in
+    let view = store_of i in
     let fits : IfSome (if c.read_into.result then Some c.read_into.new.into else None) (CellFits i.geometry.format) =
-    subst (λ (f : Format). IfSome (if c.read_into.result then Some c.read_into.new.into else None) (CellFits f)) format
+    subst (λ (f : Format). IfSome (if c.read_into.result then Some c.read_into.new.into else None) (CellFits f)) c.self.invariant.cells.shape.format
     (subst (λ (x : Option Cell). IfSome x (CellFits i.front.format)) (sym c.read_into.ensures.value) (front-fits i.front.format (cell_at i.front c.place-number.result) (c.read_into.ensures.sound.comes_back c.place-number.result))) in
     record {
       answer = λ faults.

@@ -8,12 +8,13 @@ use Rattle.cola_run.specs.Cells.{block_cells, is_in_tail}
 use Rattle.cola_run.specs.Store.{Store, held_of}
 use Rattle.cola_run.proofs.Spots.{in-tail}
 use Rattle.cola_run.proofs.Reading.{tail-says}
+use Rattle.cola_run.proofs.Views.{store_of}
 use Rattle.cola_run.proofs.run_store.RunStore.read_in_tail.Goals as goal
 
 pub returns : goal.returns
 returns g c =
     let i = c.self.inside in
-    let view : Store _ = record { buffers = i.buffers; geometry = i.geometry; front = i.front; shadows = i.shadows.items.items; tails = i.tails; ticked = i.ticked } in
+    let view = store_of i in
     let inside = in-tail (block_cells i.geometry) (shadow_at i.shadows.items.items c.args.level) c.args.slot c.args.index
     (subst (λ (s : Store _). is_in_tail (block_cells s.geometry) (shadow_at s.shadows c.args.level) c.args.slot c.args.index ≡ true) (sym c.self.view_is) c.requires.tail) in
     record {

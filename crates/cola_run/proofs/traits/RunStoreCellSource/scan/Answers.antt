@@ -4,12 +4,13 @@ use Rattle.cola_cell.specs.Windows.{IsRunIn, Scans}
 use Rattle.cola_run.specs.Store.{Store, held_of, state_of}
 use Rattle.cola_run.specs.Weaving.{is_at_hand}
 use Rattle.cola_run.proofs.Searching.{scans-all}
+use Rattle.cola_run.proofs.Views.{store_of}
 use Rattle.cola_run.proofs.traits.RunStoreCellSource.scan.Goals as goal
 
 pub returns-clause-scans : goal.returns-clause-scans
 returns-clause-scans g c =
     let i = c.self.inside in
-    let view : Store _ = record { buffers = i.buffers; geometry = i.geometry; front = i.front; shadows = i.shadows.items.items; tails = i.tails; ticked = i.ticked } in
+    let view = store_of i in
     let of : Store _ → _ = state_of g.D.Device.bytes g.D.Device.counts in
     let search = c.search_run-answer in
     let new : Store _ = record view { buffers = search.new.buffers; ticked = (i.ticked + c.unwrap_or-ticks.result) % 2 ^ 64 } in
