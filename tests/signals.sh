@@ -6,6 +6,8 @@
 #
 #     tests/signals.sh [LAUNCHER]
 set -u
+# (a shell below nohup is deaf to HUP, and so is all that it starts)
+[ "${deaf:-yes}" = no ] || deaf=no exec env --default-signal "$0" "$@"
 set -m # (else what runs in the background would ignore INT)
 root=$(cd "$(dirname "$0")/.." && pwd -P) || exit 1
 cola=$(readlink -f -- "${1:-$root/cola}") || exit 1

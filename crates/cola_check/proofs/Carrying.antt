@@ -9,7 +9,8 @@ use Rattle.cola_laws.specs.Sound.{Carried, Keeps, KeepsAll}
 use Rattle.cola_pairs.proofs.LivePairs.{rising_onward, none_below}
 use Rattle.cola_pairs.proofs.Onward.{passed_above, rising_passed}
 use Rattle.cola_check.specs.declared.carried.Step.{Step}
-use Rattle.cola_check.proofs.LeastKeys.{key_total, key_same, same_key, HeadFrom, IsLeast, some_head, least_is, least_none}
+use Rattle.cola_look.proofs.KeyLemmas.{key_same, same_key}
+use Rattle.cola_check.proofs.LeastKeys.{key_total, HeadFrom, IsLeast, some_head, least_is, least_none}
 use Rattle.cola_check.proofs.Fronts.{FrontIs, ready_front, ahead_stays, ahead_falls}
 
 -- ---- what a list in order has of keys, before and behind the cells of a key at its front

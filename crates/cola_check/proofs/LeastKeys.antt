@@ -1,31 +1,19 @@
 -- The least keys of walks, and of those down to each level.
 use Rattle.std.proofs.Common.{◌≡◌, ℕ, List, true, refl, ◌⊎◌, inl, inr, false, cond, [], ◌∷◌, Option, None, Some, IsTrue, sym, ap, ◌∙◌, zero, suc, ◌-◌, ◌<◌, length, take, get_or, Result, OnOk, subst, arith, is_eq, is_lt}
-use Rattle.cola_check.proofs.Common.{IsTotalOrder, tied_itself, AllByRecursion, refill, take-length, on_ok_weaker, same_Some, equal, by_bool, by_ordering, is_less, all_change, not_below_then, Cell, key_of, as_cell, Held, key_cmp}
+use Rattle.cola_check.proofs.Common.{IsTotalOrder, tied_itself, AllByRecursion, refill, take-length, on_ok_weaker, same_Some, by_bool, by_ordering, is_less, all_change, not_below_then, Cell, key_of, Held, key_cmp}
 use Rattle.cola_check.proofs.Common.{ReadFault, Walk, has_key, lesser, least_from, Passes, LevelWalks, walks_in, LevelFits, IsLevelReady, Each, PassesLevel, AreLeasts, AreFirstLeasts, IsAwayFrom, AreAwayFrom, Stays, IsHushed}
 use Rattle.cola_check.proofs.Common.{FirstStay}
 use Rattle.std.specs.Ordering.{ordering_reverse}
 use Rattle.std.specs.Cmp.Lexicographic.{nat_list_cmp_total}
-use Rattle.std.specs.FinMap.{IsAntisymmetric, slice_cmp-IsAntisymmetric, nat_cmp-IsAntisymmetric}
+use Rattle.cola_look.proofs.KeyLemmas.{keys_alike, same_key}
 use Rattle.cola_check.proofs.Fronts.{stands_still}
 use Rattle.cola_check.proofs.Levels.{refilled}
-use Rattle.cola_runs.specs.Cells as laws
-use Rattle.cola_cell.specs.declared.cell.Cell.TheVariants as cell
 use Rattle.cola_check.specs.declared.walk.Found.TheVariants as found
 
--- ---- the order of keys, and the keys of cells
+-- ---- the order of keys
 
 abbrev pub key_total : IsTotalOrder key_cmp
 key_total = nat_list_cmp_total
-
-pub key_same : (c : Cell) → laws.key_of (as_cell c) ≡ key_of c
-key_same (cell.Item key item young link) = refl
-key_same (cell.Look key link) = refl
-
-pub keys_alike : IsAntisymmetric key_cmp
-keys_alike = slice_cmp-IsAntisymmetric nat_cmp-IsAntisymmetric
-
-pub same_key : (x y : List ℕ) → is_eq (key_cmp x y) ≡ true → x ≡ y
-same_key x y e = keys_alike x y (equal _ e)
 
 -- ---- what is below a key, and what is not
 

@@ -13,7 +13,8 @@ use Rattle.cola_pairs.proofs.Onward.{live_step, live_ends, below_closes}
 use Rattle.cola_cell.proofs.PlaceNumbers.{slot_size-mono}
 use Rattle.cola_check.specs.Chains.{lives}
 use Rattle.cola_check.proofs.Levels.{left_next, by_each, by_each_then, each_all, each_length, refilled, shadow_cells, skipped_bad, none-sorted}
-use Rattle.cola_check.proofs.LeastKeys.{key_total, keys_alike, HeadFrom, AnyHas, some_head, least_is, least_none}
+use Rattle.cola_look.proofs.KeyLemmas.{keys_alike}
+use Rattle.cola_check.proofs.LeastKeys.{key_total, HeadFrom, AnyHas, some_head, least_is, least_none}
 use Rattle.cola_check.proofs.Fronts.{ahead_stays, ahead_falls}
 use Rattle.cola_check.proofs.Carrying.{BeginsFrom, begins_from, IsOn, on_first, on_next, told_of, found_of_key, rest_begins, nothing_left}
 use Rattle.cola_runs.specs.Cells as laws

@@ -1,5 +1,6 @@
 -- Lines where searches stop.
-use Rattle.std.proofs.Common.{◌≡◌, inl, inr, ℕ, zero, suc, ◌+◌, ◌*◌, ◌≤◌, ◌<◌, List, [], ◌∷◌, ◌++◌, map, length, take, drop, get_or, None, Result, Ok, refl, sym, ap, subst, ◌∙◌, arith, append_assoc, Bool}
+use Rattle.std.proofs.Common.{◌≡◌, inl, inr, ℕ, zero, suc, ◌+◌, ◌*◌, ◌≤◌, ◌<◌, List, [], ◌∷◌, ◌++◌, length, drop, get_or, None, Result, Ok, refl, sym, ap, subst, ◌∙◌, arith, append_assoc, Bool}
+use Rattle.std.proofs.lemmas.List.{append-nil, drop_all, drop_more}
 use Rattle.std.specs.List.{AllByRecursion}
 use Rattle.cola_runs.specs.Search as laws
 use Rattle.cola_cell.specs.declared.cell.Run.{Run}
@@ -43,10 +44,6 @@ module _ (falls : Bool) where
   pub all_append : {X : Type 0} (P : X → Type 0) (xs : List X) (x : X) → AllByRecursion P xs → P x → AllByRecursion P (xs ++ x ∷ [])
   all_append P [] x h p = (p, tt)
   all_append P (y ∷ xs) x h p = (h.0, all_append P xs x h.1 p)
-
-  pub map_append : {X Y : Type 0} (f : X → Y) (xs : List X) (x : X) → map f (xs ++ x ∷ []) ≡ map f xs ++ f x ∷ []
-  map_append f [] x = refl
-  map_append f (y ∷ xs) x = ap (λ z. f y ∷ z) (map_append f xs x)
 
   -- a run of a told list of runs
   pub record ToldRun (held : Held) (runs : List Run) (lists : List (List LawCell)) (i : ℕ) (d : Run) : Type 0 where
@@ -100,27 +97,17 @@ module _ (falls : Bool) where
       ∙ ap (λ z. places ++ z ∷ rest) pos
       ∙ ap (λ z. places ++ places_from key start z) (sym t.here) ∙ w
 
-  append_none : {X : Type 0} (xs : List X) → xs ++ [] ≡ xs
-  append_none [] = refl
-  append_none (x ∷ xs) = ap (λ z. x ∷ z) (append_none xs)
-
   lists_length : (held : Held) (runs : List Run) (lists : List (List LawCell)) → AreRuns held runs lists → length lists ≡ length runs
   lists_length held [] [] h = refl
   lists_length held [] (cells ∷ lists) h = absurd h
   lists_length held (run ∷ runs) [] h = absurd h
   lists_length held (run ∷ runs) (cells ∷ lists) h = ap suc (lists_length held runs lists h.1)
 
-  none_left : {X : Type 0} (xs : List X) (i : ℕ) → length xs ≤ i → drop i xs ≡ []
-  none_left [] zero h = refl
-  none_left [] (suc i) h = refl
-  none_left (x ∷ xs) zero h = absurd (omega arith)
-  none_left (x ∷ xs) (suc i) h = none_left xs i (omega arith)
-
   pub places_whole : (held : Held) (runs : List Run) (lists : List (List LawCell)) (i : ℕ) (key : List ℕ) (start : ℕ) (places whole : List ℕ) → AreRuns held runs lists → length runs ≤ i →
       places ++ places_from key start (drop i lists) ≡ whole → places ≡ whole
   places_whole held runs lists i key start places whole h l w =
       let n = lists_length held runs lists h in
-      sym (append_none places) ∙ ap (λ z. places ++ places_from key start z) (sym (none_left lists i (omega arith))) ∙ w
+      sym (append-nil places) ∙ ap (λ z. places ++ places_from key start z) (sym (drop_all i lists (omega arith))) ∙ w
 
   -- what is spent of one run more
   pub left_more : (runs : List Run) (i : ℕ) (d : Run) (lines now : List Line) (line : Line) (before between after : ℕ) → i < length runs → now ≡ lines ++ line ∷ [] → line.run ≡ get_or runs i d → after ≤ between + 8 →
@@ -129,18 +116,8 @@ module _ (falls : Bool) where
       let a = ap all_left e ∙ left_append falls lines line in
       let b : left_of line ≤ line.run.len = omega arith in
       let c : line.run.len ≡ (get_or runs i d).len = ap (λ (x : Run). x.len) r in
-      let f : cells_of (drop i runs) ≡ (get_or runs i d).len + cells_of (drop (i + 1) runs) = cells_from runs i l in
+      let f : cells_of (drop i runs) ≡ (get_or runs i d).len + cells_of (drop (i + 1) runs) = ap cells_of (drop_more runs i d l) in
       omega arith
-    where
-      cells_from : (runs : List Run) (i : ℕ) → i < length runs → cells_of (drop i runs) ≡ (get_or runs i d).len + cells_of (drop (i + 1) runs)
-      cells_from [] i l = absurd (omega arith)
-      cells_from (x ∷ runs) zero l = let z : 0 + 1 ≡ suc 0 = omega arith in ap (λ n. x.len + cells_of (drop n (x ∷ runs))) (sym z)
-      cells_from (x ∷ runs) (suc i) l = let z : suc i + 1 ≡ suc (i + 1) = omega arith in cells_from runs i (omega arith) ∙ ap (λ n. (get_or runs i d).len + cells_of (drop n (x ∷ runs))) (sym z)
-
-  pub taken_more : {X : Type 0} (xs : List X) (i : ℕ) (d : X) → i < length xs → take (i + 1) xs ≡ take i xs ++ get_or xs i d ∷ []
-  taken_more [] i d l = absurd (omega arith)
-  taken_more (x ∷ xs) zero d l = let z : 0 + 1 ≡ suc 0 = omega arith in ap (λ n. take n (x ∷ xs)) z
-  taken_more (x ∷ xs) (suc i) d l = let z : suc i + 1 ≡ suc (i + 1) = omega arith in ap (λ n. take n (x ∷ xs)) z ∙ ap (λ ys. x ∷ ys) (taken_more xs i d (omega arith))
 
   -- a refused search of one of the runs
   pub bad_run : (held object : Held) (runs : List Run) (i : ℕ) (d : Run) (start before between now : ℕ) (fault : ReadFault) → held ≡ object → between ≡ before → i < length runs →

@@ -1,8 +1,9 @@
 -- The first line that has the least key.
 use Rattle.std.proofs.Common.{◌≡◌, inl, inr, ℕ, zero, suc, ◌+◌, ◌≤◌, ◌<◌, Bool, true, false, cond, List, [], ◌∷◌, ◌++◌, length, take, drop, set, get_or, Option, None, Some, option_map, refl, sym, ap, subst, ◌∙◌, arith}
-use Rattle.std.proofs.Math.Seq.{take-suc}
+use Rattle.std.proofs.lemmas.List.{take_more, take_all}
 use Rattle.std.specs.List.{AllByRecursion}
 use Rattle.std.specs.Ordering.{is_lt, is_eq}
+use Rattle.cola_runs.proofs.Order.{by_bool}
 use Rattle.cola_cell.specs.declared.cell.Cell.{Cell}
 use Rattle.cola_cell.specs.declared.cell.Item.{Item}
 use Rattle.cola_cell.specs.Cell.{key_of}
@@ -13,10 +14,10 @@ use Rattle.cola_cursor.specs.Lines.{LineFits, IsReady}
 use Rattle.cola_cursor.specs.Passing.{has_key, NoneHas, Passes, PassAll}
 use Rattle.cola_cursor.specs.Results.{lesser, lowered, is_lower, least_from}
 use Rattle.cola_cursor.specs.Way.{way_cmp}
-use Rattle.cola_cursor.proofs.Fronts.{passing_begins, passing_ends}
-use Rattle.cola_cursor.proofs.Keys.{same_key, none_ends}
-use Rattle.cola_cursor.proofs.Least.{HeadPast, HeadFrom, by_bool, least_is, least_none}
-use Rattle.cola_cursor.proofs.Lists.{all_taken, or_none}
+use Rattle.cola_cursor.proofs.Fronts.{or_none, passing_begins, passing_ends}
+use Rattle.cola_look.proofs.KeyLemmas.{same_key}
+use Rattle.cola_cursor.proofs.Keys.{none_ends}
+use Rattle.cola_cursor.proofs.Least.{HeadPast, HeadFrom, least_is, least_none}
 
 module _ (falls : Bool) where
   -- ---- one line more
@@ -29,9 +30,6 @@ module _ (falls : Bool) where
   lowered_is before None = refl
   lowered_is None (Some c) = ap (λ b. cond b (Some (key_of c)) None) (none_ends falls (key_of c))
   lowered_is (Some l) (Some c) = ap (λ b. cond b (lesser falls (Some l) (key_of c)) (Some l)) (none_ends falls (key_of c))
-
-  taken_more : (lines : List Line) (i : ℕ) (d : Line) → i < length lines → take (i + 1) lines ≡ take i lines ++ get_or lines i d ∷ []
-  taken_more lines i d l = let n : i + 1 ≡ suc i = omega arith in ap (λ m. take m lines) n ∙ take-suc lines i d l
 
   -- ---- lines whose heads are above a key
 
@@ -51,17 +49,15 @@ module _ (falls : Bool) where
       go None e = refl
       go (Some c) (inl e) = let g = sym (none_ends falls (key_of c)) ∙ e in cc
       go (Some c) (inr e) =
-          by_bool falls (λ b. is_eq (key_cmp k (key_of c)) ≡ b → b ≡ false)
+          by_bool (λ b. is_eq (key_cmp k (key_of c)) ≡ b → b ≡ false)
           (λ f. let g = sym t ∙ ap (λ x. is_lt (way_cmp falls x l)) (same_key k (key_of c) f) ∙ e in absurd (cc)) (λ f. refl) (is_eq (key_cmp k (key_of c))) refl
-
-  inside : (a b : List ℕ) → Some a ≡ Some b → a ≡ b
-  inside a b e = cc
 
   lower_none : (xs : List Line) (before : Option (List ℕ)) (head : Option Cell) (k : List ℕ) → least_from falls None None xs ≡ before → is_lower falls head before ≡ true → option_map key_of head ≡ Some k → NoneHas k xs
   lower_none xs before None k e t n = absurd (cc)
   lower_none xs None (Some c) k e t n = past_none xs k (least_none falls None None xs e).1
   lower_none xs (Some l) (Some c) k e t n =
-      above_none xs k l (ap (λ x. is_lt (way_cmp falls x l)) (sym (inside (key_of c) k n)) ∙ t) (least_is falls None None xs l e).from
+      let m : Some (key_of c) ≡ Some k = n in let f : key_of c ≡ k = cc in
+      above_none xs k l (ap (λ x. is_lt (way_cmp falls x l)) (sym f) ∙ t) (least_is falls None None xs l e).from
 
   -- ---- the first lines, as far as they were looked at
 
@@ -78,8 +74,8 @@ module _ (falls : Bool) where
   seen_next lines i d least next first then s l n m =
       let head = (get_or lines i d).head in
       record {
-        taken = ap (least_from falls None None) (taken_more lines i d l) ∙ least_append None (take i lines) (get_or lines i d) ∙ ap (λ x. lowered falls None x head) s.taken ∙ lowered_is least head ∙ sym n;
-        none = λ k e. by_bool falls (λ b. is_lower falls head least ≡ b → next ≡ cond b (option_map key_of head) least → then ≡ cond b i first → NoneHas k (take then lines))
+        taken = ap (least_from falls None None) (take_more lines i d l) ∙ least_append None (take i lines) (get_or lines i d) ∙ ap (λ x. lowered falls None x head) s.taken ∙ lowered_is least head ∙ sym n;
+        none = λ k e. by_bool (λ b. is_lower falls head least ≡ b → next ≡ cond b (option_map key_of head) least → then ≡ cond b i first → NoneHas k (take then lines))
             (λ b x y. subst (λ j. NoneHas k (take j lines)) (sym y) (lower_none (take i lines) least head k s.taken b (sym x ∙ e)))
             (λ b x y. subst (λ j. NoneHas k (take j lines)) (sym y) (s.none k (sym x ∙ e)))
             (is_lower falls head least) refl n m;
@@ -87,7 +83,7 @@ module _ (falls : Bool) where
 
   -- where all were looked at
   pub seen_all : (lines : List Line) (i : ℕ) (least : Option (List ℕ)) (first : ℕ) → length lines ≤ i → Seen lines i least first → least ≡ least_from falls None None lines
-  seen_all lines i least first h s = sym s.taken ∙ ap (least_from falls None None) (all_taken falls lines i h)
+  seen_all lines i least first h s = sym s.taken ∙ ap (least_from falls None None) (take_all i lines h)
 
   -- ---- lines that are passed over
 
@@ -102,6 +98,6 @@ module _ (falls : Bool) where
       NoneHas key (take i lines) → NoneHas key (drop (suc i) lines) → Passes falls held key (get_or lines i d) new item → PassAll falls held key lines (set lines i new) item
   pass_one held key [] i d new item f r l a b p = absurd (omega arith)
   pass_one held key (x ∷ xs) zero d new item f r l a b p =
-      let e = all_taken falls xs (length xs) (omega arith) in
+      let e = take_all (length xs) xs (omega arith) in
       (item, None, p, subst (λ ys. PassAll falls held key ys ys None) e (pass_none held key xs (length xs) f.1 r.1 (subst (NoneHas key) (sym e) b)), sym (or_none falls item))
   pass_one held key (x ∷ xs) (suc i) d new item f r l a b p = (None, item, passing_ends falls (passing_begins falls held key x f.0 r.0) a.0, pass_one held key xs i d new item f.1 r.1 (omega arith) a.1 b p, refl)

@@ -1,8 +1,9 @@
 -- The cells at the front of a line.
-use Rattle.std.proofs.Common.{◌≡◌, ◌⊎◌, inl, inr, ℕ, zero, suc, ◌+◌, ◌≤◌, ◌<◌, true, false, cond, List, [], ◌∷◌, length, drop, get_or, Option, None, Some, IsTrue, option_map, is_some, refl, sym, ap, subst, ◌∙◌, arith, Bool}
+use Rattle.std.proofs.Common.{◌≡◌, ◌⊎◌, inl, inr, ℕ, suc, ◌+◌, ◌≤◌, ◌<◌, true, false, cond, List, [], ◌∷◌, length, drop, get_or, Option, None, Some, IsTrue, option_map, is_some, refl, sym, ap, subst, ◌∙◌, arith, Bool}
 use Rattle.std.specs.Option.{option_or}
 use Rattle.std.specs.Ordering.{is_eq}
 use Rattle.std.proofs.Math.Seq.{drop-cons}
+use Rattle.std.proofs.lemmas.List.{drop_all}
 use Rattle.cola_runs.specs.Cells as laws
 use Rattle.cola_cell.specs.declared.cell.Cell.{Cell}
 use Rattle.cola_cell.specs.declared.cell.Cell.TheVariants as cell
@@ -19,7 +20,8 @@ use Rattle.cola_cursor.specs.declared.line.Line.{Line}
 use Rattle.cola_cursor.specs.Lines.{HeadFits, HeadIsRead, LineFits, IsReady}
 use Rattle.cola_cursor.specs.Passing.{has_key, PassedAt, FoundItem, Passes}
 use Rattle.cola_cursor.specs.Results.{Fetches, item_of, is_value}
-use Rattle.cola_cursor.proofs.Keys.{key_same, same_key, way_length, way_get, at_within}
+use Rattle.cola_look.proofs.KeyLemmas.{key_same, same_key}
+use Rattle.cola_cursor.proofs.Keys.{way_length, way_get, at_within}
 use Rattle.cola_cursor.specs.Way.{way, at, spot_at}
 
 module _ (falls : Bool) where
@@ -186,12 +188,6 @@ module _ (falls : Bool) where
   pass_stops key (Some (cell.Item k i y l)) cells e n s = let f = s (cell.Item k i y l) refl in rw f.1 (rw e (refl, refl))
   pass_stops key (Some (cell.Look k l)) cells e n s = let f = s (cell.Look k l) refl in rw f.1 (rw e (refl, refl))
 
-  no_rest : {X : Type 0} (n : ℕ) (xs : List X) → length xs ≤ n → drop n xs ≡ []
-  no_rest zero [] h = refl
-  no_rest zero (x ∷ xs) h = absurd (omega arith)
-  no_rest (suc n) [] h = refl
-  no_rest (suc n) (x ∷ xs) h = no_rest n xs (omega arith)
-
   -- what a told line that is ready has at its front
   pub ready_front : (held : Held) (line : Line) → LineFits falls held line → IsReady line → (cells : List LawCell) → IsRun held line.run cells →
       (line.head ≡ None → drop line.place (way falls cells) ≡ []) × ((c : Cell) → line.head ≡ Some c → drop line.place (way falls cells) ≡ as_cell c ∷ drop (line.place + 1) (way falls cells))
@@ -199,10 +195,10 @@ module _ (falls : Bool) where
     where
       go : (head : Option Cell) → line.head ≡ head → HeadFits falls held line.run line.place head → HeadIsRead line.place line.run.len head →
           (line.head ≡ None → drop line.place (way falls cells) ≡ []) × ((c : Cell) → line.head ≡ Some c → drop line.place (way falls cells) ≡ as_cell c ∷ drop (line.place + 1) (way falls cells))
-      go None is t e = (λ n. no_rest line.place (way falls cells) (let l = h.length_is in let m = way_length falls cells in omega arith), λ c i. cc)
+      go None is t e = (λ n. drop_all line.place (way falls cells) (let l = h.length_is in let m = way_length falls cells in omega arith), λ c i. cc)
       go (Some d) is t e = (λ n. cc, λ c i. let s : d ≡ c = cc in subst (λ (x : Cell). drop line.place (way falls cells) ≡ as_cell x ∷ drop (line.place + 1) (way falls cells)) s (front_is held line.run line.place (as_cell d) cells t.0 t.1 h))
 
-  or_none : {X : Type 0} (a : Option X) → option_or a None ≡ a
+  pub or_none : {X : Type 0} (a : Option X) → option_or a None ≡ a
   or_none None = refl
   or_none (Some x) = refl
 

@@ -1,5 +1,5 @@
 -- A cursor on its way to its next pair.
-use Rattle.std.proofs.Common.{◌≡◌, ◌⊎◌, inl, inr, ℕ, ◌+◌, ◌≤◌, true, List, [], ◌∷◌, length, Option, None, Some, Result, Ok, Err, option_map, sym, ap, subst, ◌∙◌, arith, Bool}
+use Rattle.std.proofs.Common.{◌≡◌, inl, inr, ℕ, ◌+◌, ◌≤◌, true, List, [], ◌∷◌, length, Option, None, Some, Result, Ok, Err, option_map, sym, ap, subst, ◌∙◌, arith, Bool}
 use Rattle.std.specs.List.{AllByRecursion, refill}
 use Rattle.cola_runs.specs.Cells as laws
 use Rattle.cola_cell.specs.declared.cell.Cell.{Cell}
@@ -67,23 +67,16 @@ module _ (falls : Bool) where
             subst (λ (x : List (List LawCell)). AreApart falls x (rests falls news lists)) (sym (fetch_befores falls held cursor.lines.items news lists f))
             (subst (λ (x : List (List LawCell)). AreApart falls (befores falls cursor.lines.items lists) x) (sym (fetch_rests falls held cursor.lines.items news lists f)) a)
 
-  no_key : (k : List ℕ) → None ≡ Some k → ⊥
-  no_key k e = cc
-
-  any_of : (k : List ℕ) (lines : List Line) → (None ≡ Some k) ⊎ AnyHas falls k lines → AnyHas falls k lines
-  any_of k lines (inl e) = absurd (no_key k e)
-  any_of k lines (inr a) = a
-
   module _ {held : Held} {end : Option (List ℕ)} {olds mids : List Line} (q : Quiet held end olds mids) (k : List ℕ) (least : least_from falls end None mids ≡ Some k) where
     least_fact : IsLeast falls end None mids k
     least_fact = least_is falls end None mids k least
 
     -- the key is below the upper end, and some head has it
     pub key_below : within_end falls end k ≡ true
-    key_below = least_fact.below (λ a e. absurd (no_key a e))
+    key_below = least_fact.below (λ a e. absurd (cc))
 
     pub key_there : AnyHas falls k mids
-    key_there = any_of k mids least_fact.any
+    key_there = elim least_fact.any [ inl e ↦ absurd (cc) | inr a ↦ a ]
 
     in_mids : (lists : List (List LawCell)) → AreRuns held (runs_of olds) lists → AreRuns held (runs_of mids) lists
     in_mids lists r = subst (λ (x : List Run). AreRuns held x lists) (sym q.going.runs_are) r
@@ -192,9 +185,6 @@ module _ (falls : Bool) where
 
   pub same_pass : {held object : Held} (key : List ℕ) (olds news : List Line) (item : Option Item) → held ≡ object → PassAll falls held key olds news item → PassAll falls object key olds news item
   same_pass key olds news item e h = subst (λ (x : Held). PassAll falls x key olds news item) e h
-
-  pub value_there : (item : Option Item) (i : Item) (value : List ℕ) (stamp : ℕ) → item ≡ Some i → i ≡ Value value stamp → item ≡ Some (Value value stamp)
-  value_there item i value stamp e f = e ∙ ap Some f
 
   -- what a refused step says of the lines of the cursor
   pub step_cause : {held object : Held} {end : Option (List ℕ)} {olds news : List Line} (before between now : ℕ) (fault : ReadFault) → held ≡ object → between ≡ before → Quiet object end olds news →

@@ -5,30 +5,17 @@ use Rattle.std.specs.Option.{option_or}
 use Rattle.std.specs.Cmp.{IsTotalOrder, back_total, eq_by_cmp_equiv}
 use Rattle.std.specs.Cmp.Lexicographic.{nat_list_cmp_total}
 use Rattle.cola_pairs.specs.Walk.{Closes, KeysOnward, pass_key, pass_keys, passed_item, first_passed}
-use Rattle.cola_pairs.proofs.Order.{equal}
 use Rattle.cola_pairs.proofs.LivePairs.{rising_onward}
 use Rattle.cola_pairs.proofs.Onward.{below_closes}
 use Rattle.cola_reverse.proofs.Turned.{falling_onward, sorted_reverse}
 use Rattle.cola_reverse.proofs.Falls.{low_closes}
+use Rattle.cola_look.proofs.KeyLemmas.{keys_alike}
 use Rattle.cola_cursor.specs.Way.{way_cmp, within_end, way, at}
 use Rattle.std.specs.Ordering.{is_eq, is_lt, is_le, ordering_reverse}
-use Rattle.std.specs.FinMap.{IsAntisymmetric, slice_cmp-IsAntisymmetric, nat_cmp-IsAntisymmetric}
+use Rattle.std.specs.FinMap.{IsAntisymmetric}
 use Rattle.cola_runs.specs.Cells as laws
-use Rattle.cola_cell.specs.declared.cell.Cell.{Cell}
-use Rattle.cola_cell.specs.declared.cell.Cell.TheVariants as cell
-use Rattle.cola_cell.specs.Cell.{key_of}
-use Rattle.cola_cell.specs.Held.{LawCell, as_cell}
+use Rattle.cola_cell.specs.Held.{LawCell}
 use Rattle.cola_cell.specs.Order.{key_cmp}
-
-pub key_same : (c : Cell) → laws.key_of (as_cell c) ≡ key_of c
-key_same (cell.Item key item young link) = refl
-key_same (cell.Look key link) = refl
-
-pub keys_alike : IsAntisymmetric key_cmp
-keys_alike = slice_cmp-IsAntisymmetric nat_cmp-IsAntisymmetric
-
-pub same_key : (x y : List ℕ) → is_eq (key_cmp x y) ≡ true → x ≡ y
-same_key x y e = keys_alike x y (equal _ e)
 
 -- ---- the two directions
 

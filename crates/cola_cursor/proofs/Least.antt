@@ -4,6 +4,8 @@ use Rattle.std.specs.Ordering.{is_lt, is_eq, is_gt, ordering_reverse}
 use Rattle.std.specs.Cmp.{upto, tied_itself, IsTotalOrder}
 use Rattle.std.specs.Cmp.Lexicographic.{nat_list_cmp_total}
 use Rattle.std.specs.List.{AllByRecursion}
+use Rattle.cola_runs.proofs.Order.{by_bool}
+use Rattle.cola_pairs.proofs.Order.{by_ordering}
 use Rattle.cola_cell.specs.declared.cell.Cell.{Cell}
 use Rattle.cola_cell.specs.Cell.{key_of}
 use Rattle.cola_cell.specs.Order.{key_cmp}
@@ -14,15 +16,6 @@ use Rattle.cola_cursor.specs.Way.{way_cmp, within_end}
 use Rattle.cola_cursor.proofs.Keys.{way_total, way_closes, none_ends}
 
 module _ (falls : Bool) where
-  pub by_bool : (P : Bool → Type 0) → P true → P false → (b : Bool) → P b
-  by_bool P f g true = f
-  by_bool P f g false = g
-
-  by_ordering : (P : Ordering → Type 0) → P Less → P Equal → P Greater → (r : Ordering) → P r
-  by_ordering P f g h Less = f
-  by_ordering P f g h Equal = g
-  by_ordering P f g h Greater = h
-
   abbrev key_total : IsTotalOrder (way_cmp falls)
   key_total = way_total falls
 

@@ -1,7 +1,7 @@
 -- Lists of lines, line by line.
 use Rattle.std.proofs.Common.{◌≡◌, inl, inr, ℕ, zero, suc, ◌+◌, ◌≤◌, ◌<◌, List, [], ◌∷◌, ◌++◌, length, drop, take, set, get_or, Option, None, Some, Result, Ok, Err, IfErr, IsErrAnd, refl, sym, ap, subst, ◌∙◌, arith, length-append, Bool}
 use Rattle.std.proofs.Math.Seq.{take-length}
-use Rattle.std.proofs.lemmas.List.{take-append-le}
+use Rattle.std.proofs.lemmas.List.{take-append-le, drop_more}
 use Rattle.std.specs.Option.{option_or}
 use Rattle.std.specs.List.{AllByRecursion, refill}
 use Rattle.cola_cell.specs.declared.cell.Item.{Item}
@@ -12,6 +12,7 @@ use Rattle.cola_cursor.specs.declared.line.Line.{Line}
 use Rattle.cola_cursor.specs.Lines.{LineFits, IsReady, left_of, all_left, LineCause}
 use Rattle.cola_cursor.specs.Passing.{Passes, PassAll}
 use Rattle.cola_cursor.specs.Results.{Fetches, FetchAll, HasBadLine, LinesCause}
+use Rattle.cola_cursor.proofs.Fronts.{or_none}
 
 module _ (falls : Bool) where
   module _ {X : Type 0} where
@@ -20,34 +21,8 @@ module _ (falls : Bool) where
     all_at P (x ∷ xs) zero d l h = h.0
     all_at P (x ∷ xs) (suc i) d l h = all_at P xs i d (omega arith) h.1
 
-    taken_suc : (xs : List X) (i : ℕ) (x : X) → i < length xs → x ≡ get_or xs i x → take (suc i) xs ≡ take i xs ++ x ∷ []
-    taken_suc [] i x l e = absurd (omega arith)
-    taken_suc (y ∷ xs) zero x l e = ap (λ z. z ∷ []) (sym e)
-    taken_suc (y ∷ xs) (suc i) x l e = ap (λ z. y ∷ z) (taken_suc xs i x (omega arith) e)
-
-    -- one more of the first ones
-    pub taken_next : (xs : List X) (i : ℕ) (x : X) → i < length xs → x ≡ get_or xs i x → take (i + 1) xs ≡ take i xs ++ x ∷ []
-    taken_next xs i x l e = let n : i + 1 ≡ suc i = omega arith in ap (λ m. take m xs) n ∙ taken_suc xs i x l e
-
-    left_suc : (xs : List X) (i : ℕ) (x : X) → i < length xs → x ≡ get_or xs i x → drop i xs ≡ x ∷ drop (suc i) xs
-    left_suc [] i x l e = absurd (omega arith)
-    left_suc (y ∷ xs) zero x l e = ap (λ z. z ∷ xs) (sym e)
-    left_suc (y ∷ xs) (suc i) x l e = left_suc xs i x (omega arith) e
-
     pub left_next : (xs : List X) (i : ℕ) (x : X) → i < length xs → x ≡ get_or xs i x → drop i xs ≡ x ∷ drop (i + 1) xs
-    left_next xs i x l e = let n : suc i ≡ i + 1 = omega arith in left_suc xs i x l e ∙ ap (λ m. x ∷ drop m xs) n
-
-    pub none_left : (xs : List X) (i : ℕ) → length xs ≤ i → drop i xs ≡ []
-    none_left [] zero h = refl
-    none_left [] (suc i) h = refl
-    none_left (x ∷ xs) zero h = absurd (omega arith)
-    none_left (x ∷ xs) (suc i) h = none_left xs i (omega arith)
-
-    pub all_taken : (xs : List X) (i : ℕ) → length xs ≤ i → take i xs ≡ xs
-    all_taken [] zero h = refl
-    all_taken [] (suc i) h = refl
-    all_taken (x ∷ xs) zero h = absurd (omega arith)
-    all_taken (x ∷ xs) (suc i) h = ap (λ z. x ∷ z) (all_taken xs i (omega arith))
+    left_next xs i x l e = drop_more xs i x l ∙ ap (λ y. y ∷ drop (i + 1) xs) (sym e)
 
     -- a list that takes the place of another as long
     pub refilled : (xs ws : List X) → length ws ≡ length xs → refill (length xs) xs ws ≡ ws
@@ -72,13 +47,9 @@ module _ (falls : Bool) where
   or_joined None b c = refl
   or_joined (Some x) b c = refl
 
-  pub or_none : {X : Type 0} (a : Option X) → option_or a None ≡ a
-  or_none None = refl
-  or_none (Some x) = refl
-
   pub pass_push : (held : Held) (key : List ℕ) (olds news : List Line) (old new : Line) (item more : Option Item) → PassAll falls held key olds news item → Passes falls held key old new more →
       PassAll falls held key (olds ++ old ∷ []) (news ++ new ∷ []) (option_or item more)
-  pass_push held key [] [] old new item more h p = (more, None, p, refl, ap (λ x. option_or x more) h ∙ sym (or_none more))
+  pass_push held key [] [] old new item more h p = (more, None, p, refl, ap (λ x. option_or x more) h ∙ sym (or_none falls more))
   pass_push held key [] (n ∷ news) old new item more h p = absurd h
   pass_push held key (o ∷ olds) [] old new item more h p = absurd h
   pass_push held key (o ∷ olds) (n ∷ news) old new item more h p =

@@ -27,7 +27,7 @@ use Rattle.cola_cursor.specs.Giving.{SeekGives}
 use Rattle.cola_cursor.specs.Lines.{LineFits, Reading}
 use Rattle.cola_cursor.specs.Standing.{runs_of, rests, befores, AreSearched, AreApart, StandsAlong, AheadAlong}
 use Rattle.cola_cursor.specs.Seeking.{LevelsRise, places_from, places_of, places_told, range_ticks, cells_of, RunsCause}
-use Rattle.cola_cursor.proofs.Least.{by_bool}
+use Rattle.cola_runs.proofs.Order.{by_bool}
 use Rattle.cola_cursor.proofs.Searched.{refusal_seen}
 
 -- the search stops at the places of the key
@@ -72,14 +72,14 @@ is_less Greater e = cc
 before_place : (key : List ℕ) (cells : List LawCell) → AllByRecursion (λ c. key_cmp (laws.key_of c) key ≡ Less) (take (place key_cmp key cells) cells)
 before_place key [] = tt
 before_place key (c ∷ cells) =
-    by_bool false (λ b. is_lt (key_cmp (laws.key_of c) key) ≡ b → AllByRecursion (λ d. key_cmp (laws.key_of d) key ≡ Less) (take (cond b (suc (place key_cmp key cells)) 0) (c ∷ cells)))
+    by_bool (λ b. is_lt (key_cmp (laws.key_of c) key) ≡ b → AllByRecursion (λ d. key_cmp (laws.key_of d) key ≡ Less) (take (cond b (suc (place key_cmp key cells)) 0) (c ∷ cells)))
     (λ e. (is_less _ e, before_place key cells)) (λ e. tt) (is_lt (key_cmp (laws.key_of c) key)) refl
 
 after_place : (key : List ℕ) (cells : List LawCell) → laws.IsRising key_cmp cells → AllByRecursion (λ d. is_lt (key_cmp (laws.key_of d) key) ≡ false) (drop (place key_cmp key cells) cells)
 unfolding IsStrictlySortedBy
 after_place key [] h = tt
 after_place key (c ∷ cells) h =
-    by_bool false (λ b. is_lt (key_cmp (laws.key_of c) key) ≡ b → AllByRecursion (λ d. is_lt (key_cmp (laws.key_of d) key) ≡ false) (drop (cond b (suc (place key_cmp key cells)) 0) (c ∷ cells)))
+    by_bool (λ b. is_lt (key_cmp (laws.key_of c) key) ≡ b → AllByRecursion (λ d. is_lt (key_cmp (laws.key_of d) key) ≡ false) (drop (cond b (suc (place key_cmp key cells)) 0) (c ∷ cells)))
     (λ e. after_place key cells h.1) (λ e. none_below nat_list_cmp_total key c cells e (rising_onward nat_list_cmp_total (c ∷ cells) h)) (is_lt (key_cmp (laws.key_of c) key)) refl
 
 across : (key a b : List ℕ) → key_cmp a key ≡ Less → is_lt (key_cmp b key) ≡ false → key_cmp a b ≡ Less

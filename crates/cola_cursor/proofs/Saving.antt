@@ -8,7 +8,7 @@ use Rattle.cola_cursor.specs.declared.line.Line.{Line}
 use Rattle.cola_cursor.specs.declared.saved.Saved.{Saved}
 use Rattle.cola_cursor.specs.Saving.{numbers, is_saved, SavedOnce, Saves, restored, cursor_at, lines_left}
 use Rattle.cola_cell.specs.declared.fault.ReadFault.{ReadFault}
-use Rattle.cola_cursor.proofs.Least.{by_bool}
+use Rattle.cola_runs.proofs.Order.{by_bool}
 
 -- ---- what is put back
 
@@ -20,7 +20,7 @@ restored_push (s ∷ saved) one lines = ap (λ x. set x s.number s.line) (restor
 restored_set : (saved : List Saved) (lines : List Line) (i : ℕ) (x line : Line) → set (restored saved (set lines i x)) i line ≡ set (restored saved lines) i line
 restored_set [] lines i x line = set-set lines i x line
 restored_set (s ∷ saved) lines i x line =
-    by_bool true (λ b. (s.number == i) ≡ b → set (set (restored saved (set lines i x)) s.number s.line) i line ≡ set (set (restored saved lines) s.number s.line) i line)
+    by_bool (λ b. (s.number == i) ≡ b → set (set (restored saved (set lines i x)) s.number s.line) i line ≡ set (set (restored saved lines) s.number s.line) i line)
     (λ e. let n = eqb-true s.number i e in
     ap (λ k. set (set (restored saved (set lines i x)) k s.line) i line) n ∙ set-set (restored saved (set lines i x)) i s.line line ∙ restored_set saved lines i x line
     ∙ sym (set-set (restored saved lines) i s.line line) ∙ ap (λ k. set (set (restored saved lines) k s.line) i line) (sym n))
@@ -32,7 +32,7 @@ restored_set (s ∷ saved) lines i x line =
 restored_hides : (saved : List Saved) (lines : List Line) (i : ℕ) (x : Line) → is_saved i saved ≡ true → restored saved (set lines i x) ≡ restored saved lines
 restored_hides [] lines i x h = cc
 restored_hides (s ∷ saved) lines i x h =
-    by_bool true (λ b. (i == s.number) ≡ b → (b || is_saved i saved) ≡ true → set (restored saved (set lines i x)) s.number s.line ≡ set (restored saved lines) s.number s.line)
+    by_bool (λ b. (i == s.number) ≡ b → (b || is_saved i saved) ≡ true → set (restored saved (set lines i x)) s.number s.line ≡ set (restored saved lines) s.number s.line)
     (λ e f. subst (λ k. set (restored saved (set lines i x)) k s.line ≡ set (restored saved lines) k s.line) (eqb-true i s.number e) (restored_set saved lines i x s.line))
     (λ e f. ap (λ y. set y s.number s.line) (restored_hides saved lines i x f))
     (i == s.number) refl h
@@ -40,30 +40,26 @@ restored_hides (s ∷ saved) lines i x h =
 -- ---- each number once
 
 other : (m n : ℕ) → (n == m) ≡ false → (m == n) ≡ false
-other m n e = by_bool true (λ b. (m == n) ≡ b → b ≡ false) (λ f. absurd (eqb-false n m e (sym (eqb-true m n f)))) (λ f. refl) (m == n) refl
+other m n e = by_bool (λ b. (m == n) ≡ b → b ≡ false) (λ f. absurd (eqb-false n m e (sym (eqb-true m n f)))) (λ f. refl) (m == n) refl
 
 not_either : (a b : Bool) → (a || b) ≡ false → (a ≡ false) × (b ≡ false)
 not_either true b e = cc
 not_either false b e = (refl, e)
+
+all_push : (P : ℕ → Type 0) (saved : List Saved) (one : Saved) → AllByRecursion P (numbers saved) → P one.number → AllByRecursion P (numbers (saved ++ one ∷ []))
+all_push P [] one h p = (p, tt)
+all_push P (s ∷ saved) one h p = (h.0, all_push P saved one h.1 p)
 
 distinct_push : (saved : List Saved) (one : Saved) → is_saved one.number saved ≡ false → IsDistinct ◌==◌ (numbers saved) → IsDistinct ◌==◌ (numbers (saved ++ one ∷ []))
 unfolding IsDistinct
 distinct_push [] one h d = (tt, tt)
 distinct_push (s ∷ saved) one h d =
     let k = not_either (one.number == s.number) (is_saved one.number saved) h in
-    (all_push saved (other s.number one.number k.0) d.0, distinct_push saved one k.1 d.1)
-  where
-    all_push : (saved : List Saved) → (s.number == one.number) ≡ false → AllByRecursion (λ n. (s.number == n) ≡ false) (numbers saved) → AllByRecursion (λ n. (s.number == n) ≡ false) (numbers (saved ++ one ∷ []))
-    all_push [] e h = (e, tt)
-    all_push (t ∷ saved) e h = (h.0, all_push saved e h.1)
+    (all_push (λ n. (s.number == n) ≡ false) saved one d.0 (other s.number one.number k.0), distinct_push saved one k.1 d.1)
 
 all_front : (P : ℕ → Type 0) (saved : List Saved) (one : Saved) → AllByRecursion P (numbers (saved ++ one ∷ [])) → AllByRecursion P (numbers saved) × P one.number
 all_front P [] one h = (tt, h.0)
 all_front P (s ∷ saved) one h = let r = all_front P saved one h.1 in ((h.0, r.0), r.1)
-
-all_push : (P : ℕ → Type 0) (saved : List Saved) (one : Saved) → AllByRecursion P (numbers saved) → P one.number → AllByRecursion P (numbers (saved ++ one ∷ []))
-all_push P [] one h p = (p, tt)
-all_push P (s ∷ saved) one h p = (h.0, all_push P saved one h.1 p)
 
 distinct_front : (saved : List Saved) (one : Saved) → IsDistinct ◌==◌ (numbers (saved ++ one ∷ [])) → IsDistinct ◌==◌ (numbers saved)
 unfolding IsDistinct
@@ -78,7 +74,7 @@ once_push count saved one h l o = record { distinct = distinct_push saved one h 
 below : (xs : List ℕ) (count q : ℕ) → AllByRecursion (λ n. n < count) xs → list_any (λ n. q == n) xs ≡ true → q < count
 below [] count q h e = cc
 below (x ∷ xs) count q h e =
-    by_bool true (λ b. (q == x) ≡ b → (b || list_any (λ n. q == n) xs) ≡ true → q < count)
+    by_bool (λ b. (q == x) ≡ b → (b || list_any (λ n. q == n) xs) ≡ true → q < count)
     (λ f g. subst (λ n. n < count) (sym (eqb-true q x f)) h.0) (λ f g. below xs count q h.1 g) (q == x) refl e
 
 many : (saved : List Saved) → length (numbers saved) ≡ length saved

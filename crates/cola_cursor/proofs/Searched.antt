@@ -11,7 +11,7 @@ use Rattle.cola_look.specs.Outcome.{Outcome, Found, BadAt, Open, and_then, Answe
 use Rattle.cola_look.specs.Seek.{found_in, as_seat, turns_from}
 use Rattle.cola_look.proofs.SeekLemmas.{GoesOn, answers_whole, device_answers}
 use Rattle.cola_cursor.specs.Seeking.{length_of_first, places_told}
-use Rattle.cola_cursor.proofs.Lists.{none_left}
+use Rattle.std.proofs.lemmas.List.{drop_all}
 
 -- the same answer, seen otherwise
 pub answers_seen : {A T U : Type 0} (whole : Outcome A) (view : T → A) (other : U → A) (t : T) (u : U) → other u ≡ view t → Answers whole view (Ok t) → Answers whole other (Ok u)
@@ -108,4 +108,4 @@ module _ (held : Held) (key : List ℕ) (start : ℕ) where
     told_whole view t l e =
         let W : List Run → Type 0 = λ rs. Answers (with_places before (places_told held key start rs)) view (Ok t) in
         answers_whole whole (with_places before (places_told held key start (drop i runs))) view (Ok t) goes
-        (subst W (sym (none_left false runs i l)) (subst (λ o. Answers o view (Ok t)) (sym (with_none before)) e))
+        (subst W (sym (drop_all i runs l)) (subst (λ o. Answers o view (Ok t)) (sym (with_none before)) e))

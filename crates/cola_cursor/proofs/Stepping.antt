@@ -22,9 +22,11 @@ use Rattle.cola_cursor.specs.Lines.{LineFits, IsReady, HasBadAhead, all_ahead}
 use Rattle.cola_cursor.specs.Passing.{PassAll}
 use Rattle.cola_cursor.specs.Results.{FetchAll, HasBadLine}
 use Rattle.cola_cursor.specs.Standing.{runs_of, rests, befores, AreApart}
-use Rattle.cola_cursor.proofs.Keys.{key_same, same_key, way_total, way_alike, way_first, way_passes, way_onward}
+use Rattle.cola_look.proofs.KeyLemmas.{key_same, same_key}
+use Rattle.cola_cursor.proofs.Keys.{way_total, way_alike, way_first, way_passes, way_onward}
 use Rattle.cola_cursor.proofs.Fronts.{ready_front}
-use Rattle.cola_cursor.proofs.Least.{by_bool, HeadPast, HeadFrom, AnyHas, past_within}
+use Rattle.cola_runs.proofs.Order.{by_bool}
+use Rattle.cola_cursor.proofs.Least.{HeadPast, HeadFrom, AnyHas, past_within}
 
 module _ (falls : Bool) where
   -- ---- a bad cell ahead
@@ -221,7 +223,7 @@ module _ (falls : Bool) where
     fronts P zero (c ∷ cells) e f = tt
     fronts P (suc m) [] e f = tt
     fronts P (suc m) (c ∷ cells) e f =
-        by_bool falls (λ b. is_eq (key_cmp k (laws.key_of c)) ≡ b → drop m cells ≡ cond b (pass_key key_cmp k cells) (c ∷ cells) → AllByRecursion P (c ∷ take m cells))
+        by_bool (λ b. is_eq (key_cmp k (laws.key_of c)) ≡ b → drop m cells ≡ cond b (pass_key key_cmp k cells) (c ∷ cells) → AllByRecursion P (c ∷ take m cells))
         (λ t g. (f c (sym (same_key k (laws.key_of c) t)), fronts P m cells g f))
         (λ t g. let l = ap length g in let d = length-drop m cells in absurd (omega arith))
         (is_eq (key_cmp k (laws.key_of c))) refl e

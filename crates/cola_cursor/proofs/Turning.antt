@@ -29,7 +29,7 @@ use Rattle.cola_cursor.specs.Standing.{runs_of, rests, befores, AreSearched, Are
 use Rattle.cola_cursor.specs.Turning.{turned_line, end_line, over_key, TurnedGives, SeekBackGives, EndGives}
 use Rattle.cola_cell.specs.State.{State}
 use Rattle.cola_cell.specs.declared.fault.ReadFault.{ReadFault}
-use Rattle.cola_cursor.proofs.Keys.{keys_alike}
+use Rattle.cola_look.proofs.KeyLemmas.{keys_alike}
 use Rattle.cola_cursor.proofs.Readings.{reading_none}
 use Rattle.cola_cursor.proofs.Searched.{refusal_seen}
 use Rattle.cola_cursor.proofs.Places.{at_places, begun_apart, same_runs, few_runs, few_cells}

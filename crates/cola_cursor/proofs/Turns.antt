@@ -1,6 +1,6 @@
 -- A loop over lines that changes some of them in place.
-use Rattle.std.proofs.Common.{◌≡◌, ℕ, zero, suc, ◌+◌, ◌≤◌, ◌<◌, List, [], ◌∷◌, ◌++◌, length, take, drop, set, get_or, Option, None, Some, false, refl, sym, ap, subst, ◌∙◌, arith, Bool}
-use Rattle.std.proofs.lemmas.List.{set-get_or, take_more_set, drop-set-lt, drop_more}
+use Rattle.std.proofs.Common.{◌≡◌, ℕ, zero, suc, ◌+◌, ◌≤◌, ◌<◌, List, [], ◌∷◌, ◌++◌, length, take, drop, set, get_or, Option, None, false, refl, sym, ap, subst, ◌∙◌, arith, Bool}
+use Rattle.std.proofs.lemmas.List.{set-get_or, take_more, take_more_set, drop-set-lt, drop_more}
 use Rattle.std.specs.Option.{option_or}
 use Rattle.std.specs.List.{AllByRecursion}
 use Rattle.cola_cell.specs.declared.cell.Item.{Item}
@@ -12,8 +12,8 @@ use Rattle.cola_cursor.specs.Lines.{left_of, all_left, LineCause, LineFits, IsRe
 use Rattle.cola_cursor.specs.Passing.{has_key, Passes, PassAll}
 use Rattle.cola_cursor.specs.Results.{Fetches, FetchAll, LinesCause}
 use Rattle.cola_cursor.specs.Saving.{Saves}
-use Rattle.cola_cursor.proofs.Fronts.{passing_begins, passing_ends}
-use Rattle.cola_cursor.proofs.Lists.{all_at, taken_next, left_next, fetch_push, pass_push, left_one, cause_at}
+use Rattle.cola_cursor.proofs.Fronts.{or_none, passing_begins, passing_ends}
+use Rattle.cola_cursor.proofs.Lists.{all_at, left_next, fetch_push, pass_push, left_one, cause_at}
 use Rattle.cola_cursor.proofs.Saving.{saves_none, saves_then}
 
 module _ (falls : Bool) where
@@ -28,10 +28,6 @@ module _ (falls : Bool) where
   first_is [] ys (suc i) x e = cc
   first_is (z ∷ xs) ys zero x e = cc
   first_is (z ∷ xs) ys (suc i) x e = first_is xs ys i x e
-
-  or_none : {X : Type 0} (a : Option X) → a ≡ option_or a None
-  or_none None = refl
-  or_none (Some x) = refl
 
   tails : {X : Type 0} (x : X) (xs ys : List X) → x ∷ xs ≡ x ∷ ys → xs ≡ ys
   tails x xs ys e = cc
@@ -48,7 +44,7 @@ module _ (falls : Bool) where
     line_was = first_is olds (drop (i + 1) news) i line (sym t.rest ∙ drop_more news i d inside)
 
     taken_was : take (i + 1) olds ≡ take i olds ++ line ∷ []
-    taken_was = taken_next falls olds i line l line_was
+    taken_was = take_more olds i line l ∙ ap (λ x. take i olds ++ x ∷ []) (sym line_was)
 
     pub line_has : {held object : Held} (P : Held → Line → Type 0) → object ≡ held → AllByRecursion (P held) olds → P object line
     line_has {held} {object} P e h = subst (λ x. P x line) (sym e) (subst (P held) (sym line_was) (all_at falls (P held) olds i line l h))
@@ -92,4 +88,4 @@ module _ (falls : Bool) where
 
     pub passed_stays : {held object : Held} (key : List ℕ) (item : Option Item) → object ≡ held → PassAll falls held key (take i olds) (take i news) item → LineFits falls object line → IsReady line → has_key key line.head ≡ false →
         PassAll falls held key (take (i + 1) olds) (take (i + 1) news) item
-    passed_stays {held} {object} key item e h f r n = passed_next line same_line key item None item e (or_none item) h (passing_ends falls (passing_begins falls object key line f r) n)
+    passed_stays {held} {object} key item e h f r n = passed_next line same_line key item None item e (sym (or_none falls item)) h (passing_ends falls (passing_begins falls object key line f r) n)

@@ -22,11 +22,7 @@ impl Default for Line {
             slot: 0,
             len: 0,
         };
-        Line {
-            run,
-            place: 0,
-            head: CellRoom::empty(),
-        }
+        Line::at(run, 0)
     }
 }
 

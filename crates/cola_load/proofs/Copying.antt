@@ -15,7 +15,8 @@ use Rattle.cola_cursor.specs.Seeking.{HasBadRun, LevelsRise, RunsCause}
 use Rattle.cola_cursor.specs.Standing.{Ahead, TakesNext, LinesPassed, AnyHasValue, IsPassed, none_hidden, answered_key, runs_of, AreSearched}
 use Rattle.cola_cursor.specs.Lines.{LineFits}
 use Rattle.cola_cursor.specs.Way.{at}
-use Rattle.cola_cursor.proofs.Keys.{at_within, keys_alike}
+use Rattle.cola_look.proofs.KeyLemmas.{keys_alike}
+use Rattle.cola_cursor.proofs.Keys.{at_within}
 use Rattle.cola_runs.proofs.Order.{all_append}
 use Rattle.std.specs.List.{AllByRecursion}
 use Rattle.cola_device.specs.declared.counts.Counts.{Counts}

@@ -1,3 +1,4 @@
+pub mod KeyLemmas
 pub mod Looking
 pub mod RunLists
 pub mod TurnLemmas

@@ -12,7 +12,6 @@ use Rattle.cola_runs.specs.Search as laws
 use Rattle.cola_runs.proofs.Order.{by_bool}
 use Rattle.cola_runs.proofs.Searches.{stops_at_place, hit_at_place}
 use Rattle.cola_cell.specs.declared.cell.Cell.{Cell}
-use Rattle.cola_cell.specs.declared.cell.Cell.TheVariants as cell
 use Rattle.cola_cell.specs.declared.cell.Run.{Run}
 use Rattle.cola_cell.specs.declared.fault.ReadFault.{ReadFault}
 use Rattle.cola_cell.specs.declared.fault.ReadFault.TheVariants.{Device, BadCell}
@@ -32,6 +31,7 @@ use Rattle.cola_look.specs.Outcome.{Outcome, Found, BadAt, Open, Answers}
 use Rattle.cola_look.specs.Seek.{first_of, last_of, is_passed, first_stop, seat_at, found_at, found_end, found_from, found_in, seat_of_key, as_seat, SeekCause, turns_from}
 use Rattle.cola_look.specs.Seeks.{Seeks}
 use Rattle.cola_look.specs.Turns.{groups, turns_left}
+use Rattle.cola_look.proofs.KeyLemmas.{key_same}
 use Rattle.cola_look.proofs.TurnLemmas.{turn_once, read_turned, read_within, eight_in_block}
 
 -- ---- what is told of a run decides the search
@@ -165,11 +165,6 @@ device_answers (Found a) view = tt
 device_answers (BadAt n) view = tt
 device_answers Open view = tt
 
--- the key of a cell is that of the laws' cell
-key_same : (c : Cell) → parts.key_of c ≡ key_of (as_cell c)
-key_same (cell.Item key item young link) = refl
-key_same (cell.Look key link) = refl
-
 module _ (held : Held) (run : Run) (next_len : ℕ) (key : List ℕ) (i n : ℕ) where
   -- the search of the places from here on, by what is told here
   abbrev by_spot : Spot → Outcome (laws.Seat Stamped)
@@ -204,12 +199,12 @@ module _ (held : Held) (run : Run) (next_len : ℕ) (key : List ℕ) (i n : ℕ)
   -- a cell below the key is passed
   pub passes : (c : Cell) → Tells (held.spots run.level run.slot i) (Told (as_cell c)) → is_lt (key_cmp (parts.key_of c) key) ≡ true →
       GoesOn (found_from held run next_len key i (suc n)) (found_from held run next_len key (suc i) n)
-  passes c h l = pass_by (held.spots run.level run.slot i) (as_cell c) refl h (ap (λ k. is_lt (key_cmp k key)) (sym (key_same c)) ∙ l)
+  passes c h l = pass_by (held.spots run.level run.slot i) (as_cell c) refl h (ap (λ k. is_lt (key_cmp k key)) (key_same c) ∙ l)
 
   -- at any other the search stops
   pub stops : (c : Cell) (seat : Seat) → Tells (held.spots run.level run.slot i) (Told (as_cell c)) → is_lt (key_cmp (parts.key_of c) key) ≡ false →
       as_seat seat ≡ seat_at key i (as_cell c) → Answers (found_from held run next_len key i (suc n)) as_seat (Ok seat)
-  stops c seat h l s = stop_by (held.spots run.level run.slot i) (as_cell c) seat refl h (ap (λ k. is_lt (key_cmp k key)) (sym (key_same c)) ∙ l) s
+  stops c seat h l s = stop_by (held.spots run.level run.slot i) (as_cell c) seat refl h (ap (λ k. is_lt (key_cmp k key)) (key_same c) ∙ l) s
 
   -- and a refusal is the device's or names the cell here
   pub refuses : (before now : ℕ) (fault : ReadFault) → ReadAnswers held before now run.level run.slot i (Err fault) →

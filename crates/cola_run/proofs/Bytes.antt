@@ -1,13 +1,13 @@
 -- Cells among bytes of which some were written.
 use Rattle.std.proofs.lemmas.List.{drop-drop}
 use Rattle.std.proofs.Common.{◌≡◌, ◌≢◌, ℕ, ◌+◌, ◌*◌, ◌/◌, ◌%◌, ◌<◌, ◌≤◌, List, length, inl, inr, sym, ap, ◌∙◌, arith, drop, ◌-◌}
-use Rattle.std.proofs.Math.Nat.{mul-add, mul-le-mul_left, mul_comm, mul_left_comm}
+use Rattle.std.proofs.Math.Nat.{div-add-mod, mod-lt, mul-add, mul-le-mul_left, mul_comm, mul_left_comm}
 use Rattle.cola_cell.specs.declared.format.Format.{Format}
 use Rattle.cola_cell.specs.Format.{width}
 use Rattle.cola_device.specs.Bytes.{part, splice}
 use Rattle.cola_device.proofs.BytesLemmas.{drop-splice_end, part-splice_inside, part-splice_below, part-splice_above, part-part}
 use Rattle.cola_front.specs.Front.{cell_bytes}
-use Rattle.cola_run.proofs.Numbers.{split, block-apart}
+use Rattle.cola_run.proofs.Numbers.{block-apart}
 
 -- a cell before those that were written stays
 pub cell-below : (f : Format) (bytes new : List ℕ) (m c : ℕ) → width f * m ≤ length bytes → c + 1 ≤ m → cell_bytes f (splice bytes (width f * m) new) c ≡ cell_bytes f bytes c
@@ -20,7 +20,8 @@ cell-above f bytes new m n c holds many above = part-splice_above bytes (width f
 -- one of them is new
 pub cell-inside : (f : Format) (bytes new : List ℕ) (m n p : ℕ) → width f * m ≤ length bytes → length new ≡ width f * n → p < n → cell_bytes f (splice bytes (width f * m) new) (m + p) ≡ cell_bytes f new p
 cell-inside f bytes new m n p holds many within =
-    ap (λ (at : ℕ). part (splice bytes (width f * m) new) at (width f)) (mul-add (width f) m p) ∙ part-splice_inside bytes (width f * m) new (width f * p) (width f) holds (omega (arith, many, mul-le-mul_left (width f) within))
+    ap (λ (at : ℕ). part (splice bytes (width f * m) new) at (width f)) (mul-add (width f) m p)
+    ∙ part-splice_inside bytes (width f * m) new (width f * p) (width f) holds (omega (arith, many, mul-le-mul_left (width f) within))
 
 -- bytes of as many cells have room for fewer
 pub room-of : (f : Format) (m n : ℕ) → m ≤ n → width f * m ≤ width f * n
@@ -52,19 +53,17 @@ module _ (f : Format) (bytes new : List ℕ) (block k : ℕ) (some : 0 < block) 
   -- a cell of this one is new
   pub block-is_new : (c : ℕ) → c / block ≡ k → cell_bytes f (splice bytes (k * (width f * block)) new) c ≡ cell_bytes f new (c % block)
   block-is_new c here =
-      let s = split block c some in
-      let at : block * k + c % block ≡ c = ap (λ (n : ℕ). block * n + c % block) (sym here) ∙ s.is in
+      let at : block * k + c % block ≡ c = ap (λ (n : ℕ). block * n + c % block) (sym here) ∙ div-add-mod c block in
       ap (λ (from : ℕ). cell_bytes f (splice bytes from new) c) (block-from f block k)
       ∙ ap (λ (n : ℕ). cell_bytes f (splice bytes (width f * (block * k)) new) n) (sym at)
-      ∙ cell-inside f bytes new (block * k) block (c % block) holds whole s.rest
+      ∙ cell-inside f bytes new (block * k) block (c % block) holds whole (mod-lt c some)
 
 -- a cell of a whole block
 pub block-cell : (f : Format) (bytes : List ℕ) (block c : ℕ) → 0 < block → cell_bytes f (part bytes (c / block * (width f * block)) (width f * block)) (c % block) ≡ cell_bytes f bytes c
 block-cell f bytes block c some =
-    let s = split block c some in
     ap (λ (at : ℕ). cell_bytes f (part bytes at (width f * block)) (c % block)) (block-from f block (c / block))
-    ∙ cell-part f bytes (block * (c / block)) block (c % block) s.rest
-    ∙ ap (λ (n : ℕ). cell_bytes f bytes n) s.is
+    ∙ cell-part f bytes (block * (c / block)) block (c % block) (mod-lt c some)
+    ∙ ap (λ (n : ℕ). cell_bytes f bytes n) (div-add-mod c block)
 
 -- what lies behind a piece that was written stays
 pub drop-behind : (bytes new : List ℕ) (at end : ℕ) → at + length new ≤ length bytes → at + length new ≤ end → drop end (splice bytes at new) ≡ drop end bytes

@@ -1,24 +1,22 @@
 -- That finishes of levels on the device meet the trait.
-use Rattle.std.proofs.Common.{◌≡◌, ◌≢◌, ◌⊎◌, inl, inr, ℕ, ◌+◌, ◌-◌, ◌*◌, ◌^◌, ◌<◌, ◌≤◌, not, Bool, true, false, List, Option, Result, Ok, Err, is_ok, refl, ap, ◌∙◌, arith}
+use Rattle.std.proofs.Common.{◌≡◌, inl, inr, ℕ, ◌+◌, not, Bool, true, false, List, Option, Result, Ok, Err, is_ok, refl, ap, ◌∙◌, arith}
 use Rattle.std.proofs.lemmas.Bool.{false≢true, not-true}
 use Rattle.cola_cell.specs.declared.fault.PushFault.{PushFault}
 use Rattle.cola_cell.specs.declared.fault.PushFault.TheVariants.{Device, Overfull}
 use Rattle.cola_cell.specs.declared.sink.Shadow.{Shadow}
 use Rattle.cola_cell.specs.Flat.{shadow_at}
-use Rattle.cola_cell.specs.Places.{slot_size, IsPlace}
+use Rattle.cola_cell.specs.Places.{IsPlace}
 use Rattle.cola_cell.specs.Spent.{Ticks}
 use Rattle.cola_cell.specs.Shadows.{IsKept, FinishAnswers, Finishes, FinishSpends}
 use Rattle.cola_device.specs.declared.counts.Counts.{Counts}
-use Rattle.cola_front.specs.Front.{FrontCells}
 use Rattle.cola_layout.specs.declared.geometry.Geometry.{Geometry}
-use Rattle.cola_layout.proofs.Powers.{power-le}
-use Rattle.cola_run.specs.Cells.{IsOnDevice, Lower, block_number, spots_of, IsShape, cells_by}
+use Rattle.cola_run.specs.Cells.{IsOnDevice, Lower, block_number, IsShape}
 use Rattle.cola_run.specs.Store.{Store, IsStore, cells_of, held_of, state_of, kept_of}
 use Rattle.cola_run.specs.Parts.{TailFinished, MetFault, IsFinished}
 use Rattle.cola_run.specs.Turns.{Writing}
-use Rattle.cola_run.proofs.Reading.{span-is}
+use Rattle.cola_run.proofs.Reading.{not-small}
 use Rattle.cola_run.proofs.Finishes.{finish-beside, ends-within, finish-told, finish-stays, finish-shape, finish-backed}
-use Rattle.cola_run.proofs.Sinks.{kept-by, HasCauseOf, cause-of, calm-of, lasts-many, sound-by, around-by, spends-nothing, spends-writes}
+use Rattle.cola_run.proofs.Sinks.{kept-by, HasCauseOf, cause-of, calm-of, lasts-many, sound-by, spots-by, around-by, spends-nothing, spends-writes}
 
 -- a finish of a level on the device
 module _ {D K T : Type 0} (bytes : D → Option (List ℕ)) (counts : D → Counts) (kept : D → K) (store now : Store D) (level : ℕ) (result : Result T PushFault)
@@ -55,9 +53,6 @@ module _ {D K T : Type 0} (bytes : D → Option (List ℕ)) (counts : D → Coun
       kept-by bytes counts kept store now same writing.stays.blocks writing.kept_is (finish-beside g store.front lower lower-now level result shape device finished sound.cells.backed)
       (let low = writing.called.others_stay in let high = writing.called.others_rise in omega (arith, low, high))
 
-  spots-now : (l s i : ℕ) → spots_of (cells_of (bytes now.buffers.cache.device) now) l s i ≡ spots_of (cells_by g store.front lower-now) l s i
-  spots-now l s i = ap (λ (x : Geometry). spots_of (cells_by x now.front lower-now) l s i) same ∙ ap (λ (x : FrontCells). spots_of (cells_by g x lower-now) l s i) front
-
   answers : (r : Result T PushFault) → r ≡ result → MetFault r → HasCauseOf r (counts store.buffers.cache.device).faults (counts now.buffers.cache.device).faults →
       FinishAnswers (held_of bytes store) (counts store.buffers.cache.device).faults (counts now.buffers.cache.device).faults level r
   answers (Ok value) e fault cause = tt
@@ -68,16 +63,13 @@ module _ {D K T : Type 0} (bytes : D → Option (List ℕ)) (counts : D → Coun
       by-test false w = refl
   answers (Err (Overfull l)) e fault cause = absurd fault
 
-  pub finished-stays : (l s i : ℕ) → (l ≢ level) ⊎ (s ≢ shadow.slot) ⊎ (i < shadow.len) → (held_of bytes now).spots l s i ≡ (held_of bytes store).spots l s i
-  finished-stays l s i apart = spots-now l s i ∙ finish-stays g store.front lower lower-now level result shape device finished sound.cells.backed l s i apart
-
   pub finished-meets : Finishes (state_of bytes counts store) (state_of bytes counts now) level result
   finished-meets = record {
-    around = around-by bytes store now level same writing.stays.made (λ l apart. finished.shadow.others l apart) (finish-told g lower lower-now level result finished);
+    around = around-by bytes store now level same writing.stays.made finished.shadow.others (finish-told g lower lower-now level result finished);
     answer = answers result refl finished.fault (cause-of result writing.called);
     calm = calm-of result finished.fault writing.called;
     shadow_is = finished.shadow.is;
-    others_stay = finished-stays;
+    others_stay = λ l s i apart. spots-by (bytes now.buffers.cache.device) store now same front l s i ∙ finish-stays g store.front lower lower-now level result shape device finished sound.cells.backed l s i apart;
   }
 
   pub finished-spends : FinishSpends (state_of bytes counts store) (state_of bytes counts now) level
@@ -86,9 +78,5 @@ module _ {D K T : Type 0} (bytes : D → Option (List ℕ)) (counts : D → Coun
     only_needed = λ kept_is. spends-nothing counts kept store now level shadow.slot shadow.len (not shadow.saved) result 0 shape.block device.whole place writing same ticked (saved-of kept_is);
   }
     where
-      small : slot_size level < 8 * 2 ^ (g.block_exp - 3) → ⊥
-      small h =
-          omega (arith, h, span-is g shape.block, power-le g.block_exp (level + 2) device.whole)
-
       saved-of : IsKept (held_of bytes store) level → not shadow.saved ≡ false
-      saved-of k = elim k.is [ inl h ↦ ap (λ (t : Bool). not t) h | inr h ↦ absurd (small h) ]
+      saved-of k = elim k.is [ inl h ↦ ap (λ (t : Bool). not t) h | inr h ↦ absurd (not-small g level shape.block device.whole h) ]

@@ -1,5 +1,5 @@
 -- What a flush leaves of the front's two blocks, refused or not.
-use Rattle.std.proofs.Common.{◌≡◌, ◌⊎◌, inl, inr, ℕ, ◌+◌, ◌-◌, ◌*◌, ◌<◌, ◌≤◌, List, ◌++◌, length, take, drop, Option, None, Some, IfSome, Err, sym, ap, subst, ◌∙◌, arith}
+use Rattle.std.proofs.Common.{◌≡◌, inl, inr, ℕ, ◌+◌, ◌-◌, ◌*◌, ◌<◌, ◌≤◌, List, ◌++◌, length, take, drop, Option, None, Some, IfSome, Err, sym, ap, subst, ◌∙◌, arith}
 use Rattle.std.proofs.lemmas.List.{take-take, take_all, drop_at}
 use Rattle.cola_outside.specs.Told.{Both}
 use Rattle.cola_cell.specs.declared.format.Format.{Format}
@@ -20,6 +20,7 @@ use Rattle.cola_layout.specs.declared.geometry.Geometry.{Geometry}
 use Rattle.cola_run.specs.Cells.{block_bytes, known_spot, spots_of, IsShape, IsBacked}
 use Rattle.cola_run.specs.Saving.{IsFlushed, AreLevelSpots, AreSpotsBehind, SameFront, SameLevels, SameBehind, IsFirstLast, IsFrontLast}
 use Rattle.cola_run.specs.Loading.{AreSavedBelow}
+use Rattle.cola_run.proofs.Flushes.{front-size}
 use Rattle.cola_run.proofs.Heads.{place-spots}
 use Rattle.cola_run.proofs.Spots.{both-all}
 
@@ -59,9 +60,6 @@ same-first n b x same = sym (take-take n (2 * n) x (omega arith)) ∙ (ap (take 
 
 -- after a refused write of the front block 0 is as before, or the file has every cell behind it
 module _ (g : Geometry) (front : FrontCells) (shadows : List Shadow) (tails header : List ℕ) (shape : IsShape g front shadows tails) (is : IsFront front) (head : length header ≡ 512) (saved : AreSavedBelow g shadows (g.bottom + 1)) where
-  size : block_size front ≡ block_bytes g
-  size = ap (λ (f : Format). width f * front.block) shape.format ∙ ap (λ (n : ℕ). width g.format * n) shape.front_block
-
   spots-behind : (bytes : List ℕ) → IsBacked g shadows tails bytes → part bytes (block_size front) (block_size front) ≡ second_block front
       → AreSpotsBehind g (known_spot (record { geometry = g; front = front; lower = record { told = Some bytes; shadows = shadows; tails = tails } }) bytes) bytes
   spots-behind bytes backed second l s i p behind =
@@ -77,7 +75,7 @@ module _ (g : Geometry) (front : FrontCells) (shadows : List Shadow) (tails head
   first-refused T fault (Some b) (Some x) None backed same order = absurd order
   first-refused T fault (Some b) (Some x) (Some y) backed same order =
       elim order [
-        | inl stays ↦ inl (subst (λ (n : ℕ). take n y ≡ take n x) size stays ∙ same-first (block_bytes g) b x same)
+        | inl stays ↦ inl (subst (λ (n : ℕ). take n y ≡ take n x) (front-size g front shadows tails shape) stays ∙ same-first (block_bytes g) b x same)
         | inr second ↦ inr (spots-behind y backed second)
       ]
 

@@ -1,5 +1,5 @@
 -- A store behind a merge over the bytes of runs into its front.
-use Rattle.std.proofs.Common.{◌≡◌, ◌≢◌, ◌⊎◌, inl, inr, ℕ, ◌+◌, ◌-◌, ◌%◌, ◌^◌, ◌≤◌, ◌<◌, List, length, Option, None, Some, refl, ap, sym, subst, ◌∙◌, arith}
+use Rattle.std.proofs.Common.{◌≡◌, ◌≢◌, ◌⊎◌, inl, inr, ℕ, ◌+◌, ◌-◌, ◌%◌, ◌≤◌, ◌<◌, List, length, Option, None, Some, refl, ap, sym, subst, ◌∙◌, arith}
 use Rattle.std.proofs.Math.Nat.{mod-eq_of_lt}
 use Rattle.std.proofs.lemmas.Bool.{cases_lt}
 use Rattle.std.proofs.lemmas.Nat.{pow_pos}
@@ -58,8 +58,7 @@ module _ {D K : Type 0} (bytes : D → Option (List ℕ)) (counts : D → Counts
 
   -- a slot of the front is less than a block
   small : slot_size level + 1 ≤ block_cells g
-  small =
-      omega (arith, power-le (level + 3) g.block_exp (omega (arith, low)), next_power (level + 2) (level + 3) (omega arith), pow_pos (level + 2))
+  small = omega (arith, power-le (level + 3) g.block_exp (omega (arith, low)), next_power (level + 2) (level + 3) (omega arith), pow_pos (level + 2))
 
   place : (k : ℕ) → k < count → IsPlace (g.bottom + 1) level shadow.slot (shadow.len + k)
   place k h = let stands = sound.cells.shape.shadows_fit level within in record { level_in = omega (arith, within); slot_in = stands.slot_in; index_in = omega (arith, few, h) }

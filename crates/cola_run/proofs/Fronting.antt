@@ -1,27 +1,22 @@
 -- That restarts, and pushes and finishes of levels of the front, meet the trait.
-use Rattle.std.proofs.Common.{◌≡◌, inl, inr, ℕ, ◌+◌, ◌%◌, ◌^◌, ◌<◌, ◌≤◌, ◌==◌, Bool, true, List, length, set, Option, Some, IfSome, Result, Ok, Err, is_ok, refl, sym, ap, subst, ◌∙◌, arith}
-use Rattle.std.proofs.lemmas.Bool.{false≢true}
+use Rattle.std.proofs.Common.{◌≡◌, inl, inr, ℕ, ◌+◌, ◌%◌, ◌<◌, ◌≤◌, ◌==◌, true, List, length, set, Option, Some, IfSome, Ok, refl, sym, ap, subst, ◌∙◌, arith}
 use Rattle.cola_outside.specs.Told.{Both}
 use Rattle.cola_cell.specs.declared.cell.Cell.{Cell}
-use Rattle.cola_cell.specs.declared.fault.PushFault.{PushFault}
 use Rattle.cola_cell.specs.declared.sink.Shadow.{Shadow}
 use Rattle.cola_cell.specs.Flat.{shadow_at}
-use Rattle.cola_cell.specs.Held.{span}
 use Rattle.cola_cell.specs.Places.{slot_size, number_of, IsPlace}
-use Rattle.cola_cell.specs.Spent.{Ticks}
-use Rattle.cola_cell.specs.Shadows.{emptied, IsKept, StaysAround, Restarts, after_push, PushAnswers, WriteCalm, Pushes, FinishAnswers, Finishes}
+use Rattle.cola_cell.specs.Shadows.{emptied, IsKept, StaysAround, Restarts, Pushes, Finishes}
 use Rattle.cola_device.specs.declared.counts.Counts.{Counts}
 use Rattle.cola_front.specs.Front.{FrontCells}
 use Rattle.cola_layout.specs.declared.geometry.Geometry.{Geometry}
-use Rattle.cola_layout.proofs.Powers.{power-le}
 use Rattle.cola_cache.specs.Blocks.{Blocks}
 use Rattle.cola_run.specs.Cells.{Lower, spots_of, IsShadow, IsShape, IsBacked, cells_by}
 use Rattle.cola_run.specs.Store.{Store, IsStore, cells_of, held_of, state_of}
 use Rattle.cola_run.specs.Parts.{OneShadow, fills}
-use Rattle.cola_run.proofs.Reading.{span-is}
+use Rattle.cola_run.proofs.Reading.{not-small, span-is}
 use Rattle.cola_run.proofs.Spots.{both-same}
 use Rattle.cola_run.proofs.Standing.{restart-others, restart-kept, restart-shape, restart-backed, front-stays, front-shape, front-backed, put-elsewhere, put-end}
-use Rattle.cola_run.proofs.Sinks.{shape-with, sound-with, sound-by, around-by}
+use Rattle.cola_run.proofs.Sinks.{shape-with, sound-with, sound-by, around-by, spots-by}
 
 -- a change of one shadow, and perhaps of the front, that leaves the device and the tails
 module _ {D K : Type 0} (bytes : D → Option (List ℕ)) (counts : D → Counts) (kept : D → K) (store now : Store D) (level : ℕ) (shadow-now : Shadow)
@@ -41,14 +36,11 @@ module _ {D K : Type 0} (bytes : D → Option (List ℕ)) (counts : D → Counts
 
   pub same-around : StaysAround (held_of bytes store) (held_of bytes now) level
   same-around =
-      around-by bytes store now level same (ap (λ (b : Blocks D). b.made) buffers) (λ l apart. one.others l apart)
+      around-by bytes store now level same (ap (λ (b : Blocks D). b.made) buffers) one.others
       (subst (λ (x : Option (List ℕ)). Both (bytes store.buffers.cache.device) x (λ _ _. Unit {0})) (sym told-same) (both-same (bytes store.buffers.cache.device) (λ _ _. Unit {0}) (λ _. tt)))
 
   pub spots-now : (l s i : ℕ) → spots_of (cells_of (bytes now.buffers.cache.device) now) l s i ≡ spots_of (cells_by g now.front lower-now) l s i
   spots-now l s i = ap (λ (x : Geometry). spots_of (cells_by x now.front lower-now) l s i) same
-
-  front-now : now.front ≡ store.front → (l s i : ℕ) → spots_of (cells_of (bytes now.buffers.cache.device) now) l s i ≡ spots_of (cells_by g store.front lower-now) l s i
-  front-now front l s i = spots-now l s i ∙ ap (λ (x : FrontCells). spots_of (cells_by g x lower-now) l s i) front
 
   sound-same : now.front ≡ store.front → IsShape g store.front now.shadows now.tails → IfSome (bytes now.buffers.cache.device) (IsBacked g now.shadows now.tails) → IsStore (bytes now.buffers.cache.device) now
   sound-same front shape backed =
@@ -68,15 +60,14 @@ module _ {D K : Type 0} (bytes : D → Option (List ℕ)) (counts : D → Counts
     restarted-meets = record {
       around = same-around;
       shadow_is = emptied-one.is;
-      others_stay = λ l s i apart. front-now front l s i ∙ restart-others g store.front lower lower-now level slot sound.cells.shape told-same tails emptied-one l s i apart;
-      kept_stay = λ k l s i. front-now front l s i ∙ restart-kept g store.front lower lower-now level slot sound.cells.shape told-same tails emptied-one sound.cells.backed (saved-of k) l s i;
+      others_stay = λ l s i apart. spots-by (bytes now.buffers.cache.device) store now same front l s i ∙ restart-others g store.front lower lower-now level slot sound.cells.shape told-same tails emptied-one l s i apart;
+      kept_stay = λ k l s i. spots-by (bytes now.buffers.cache.device) store now same front l s i ∙ restart-kept g store.front lower lower-now level slot sound.cells.shape told-same tails emptied-one sound.cells.backed (saved-of k) l s i;
     }
       where
         saved-of : IsKept (held_of bytes store) level → g.block_exp ≤ level + 2 → (shadow_at store.shadows level).saved ≡ true
         saved-of k high = elim k.is [
           | inl h ↦ h
-          | inr h ↦ absurd (
-              omega (arith, h, span-is g sound.cells.shape.block, power-le g.block_exp (level + 2) high))
+          | inr h ↦ absurd (not-small g level sound.cells.shape.block high h)
         ]
 
   -- a finish of a level of the front
@@ -94,7 +85,7 @@ module _ {D K : Type 0} (bytes : D → Option (List ℕ)) (counts : D → Counts
       answer = tt;
       calm = ap (λ (b : Blocks D). (counts b.cache.device).faults) buffers;
       shadow_is = one.is ∙ is;
-      others_stay = λ l s i _. front-now front l s i ∙ front-stays g store.front store.front lower lower-now level shadow-now sound.cells.shape told-same tails one low l s i (λ _ _. refl);
+      others_stay = λ l s i _. spots-by (bytes now.buffers.cache.device) store now same front l s i ∙ front-stays g store.front store.front lower lower-now level shadow-now sound.cells.shape told-same tails one low l s i (λ _ _. refl);
     }
 
   -- a push to a level of the front

@@ -34,13 +34,11 @@ front-bad header front level number low fit few above bad = record {
   bad = bad.bad.bad;
   lowest = λ l s i run below. elim (cases_order l level) [
     | inl same ↦ subst (λ (x : ℕ). cell_at front (number_of x s i) ≢ None) (sym same) (here s i (subst (λ (x : ℕ). IsFrontRun header x s i) same run) (subst (λ (x : ℕ). number_of x s i < number) same below))
-    | inr other ↦ elim other [
-      | inl less ↦ above l s i less run
-      | inr more ↦ absurd (
-          let most : run_len header level bad.slot ≤ slot_size level = fit level bad.slot (omega (arith, low, few)) in
-          let grow : 2 ^ (level + 4) ≤ 2 ^ (l + 3) = power-le (level + 4) (l + 3) (omega (arith, more)) in
-          omega (arith, below, bad.bad.at, place-below level bad.slot bad.bad.index (omega (arith, bad.slot_in)) (omega (arith, bad.bad.within, most)), place-from l s i, grow))
-    ]
+    | inr (inl less) ↦ above l s i less run
+    | inr (inr more) ↦ absurd (
+        let most : run_len header level bad.slot ≤ slot_size level = fit level bad.slot (omega (arith, low, few)) in
+        let grow : 2 ^ (level + 4) ≤ 2 ^ (l + 3) = power-le (level + 4) (l + 3) (omega (arith, more)) in
+        omega (arith, below, bad.bad.at, place-below level bad.slot bad.bad.index (omega (arith, bad.slot_in)) (omega (arith, bad.bad.within, most)), place-from l s i, grow))
   ];
 }
   where
@@ -50,17 +48,15 @@ front-bad header front level number low fit few above bad = record {
           | inl same ↦
               let e : number ≡ number_of level s bad.bad.index = bad.bad.at ∙ ap (λ (x : ℕ). number_of level x bad.bad.index) (sym same) in
               subst (λ (x : ℕ). cell_at front (number_of level x i) ≢ None) (sym same) (bad.bad.first i (omega (arith, below, e)))
-          | inr other ↦ elim other [
-            | inl less ↦
-                let zero : s ≡ 0 = omega (arith, less, bad.slot_in) in
-                let one : bad.slot ≡ 1 = omega (arith, less, bad.slot_in) in
-                subst (λ (x : ℕ). cell_at front (number_of level x i) ≢ None) (sym zero) (bad.before one i (let w = run.within in subst (λ (x : ℕ). i < run_len header level x) zero w))
-            | inr more ↦ absurd (
-                let zero : bad.slot ≡ 0 = omega (arith, more, run.slot_in) in
-                let one : s ≡ 1 = omega (arith, more, run.slot_in) in
-                let e : number ≡ (2 + 0) * slot_size level + bad.bad.index = bad.bad.at ∙ ap (λ (x : ℕ). number_of level x bad.bad.index) zero in
-                omega (arith, below, e, ap (λ (x : ℕ). number_of level x i) one, bad.bad.within, fit level bad.slot (omega (arith, low, few))))
-          ]
+          | inr (inl less) ↦
+              let zero : s ≡ 0 = omega (arith, less, bad.slot_in) in
+              let one : bad.slot ≡ 1 = omega (arith, less, bad.slot_in) in
+              subst (λ (x : ℕ). cell_at front (number_of level x i) ≢ None) (sym zero) (bad.before one i (let w = run.within in subst (λ (x : ℕ). i < run_len header level x) zero w))
+          | inr (inr more) ↦ absurd (
+              let zero : bad.slot ≡ 0 = omega (arith, more, run.slot_in) in
+              let one : s ≡ 1 = omega (arith, more, run.slot_in) in
+              let e : number ≡ (2 + 0) * slot_size level + bad.bad.index = bad.bad.at ∙ ap (λ (x : ℕ). number_of level x bad.bad.index) zero in
+              omega (arith, below, e, ap (λ (x : ℕ). number_of level x i) one, bad.bad.within, fit level bad.slot (omega (arith, low, few))))
         ]
 
 -- a place of the front's runs is one that a load takes

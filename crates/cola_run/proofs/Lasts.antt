@@ -1,7 +1,7 @@
 -- The blocks that were read last, by their numbers in the file.
 use Rattle.std.proofs.Common.{◌≡◌, ◌≢◌, inl, inr, ℕ, zero, suc, ◌+◌, ◌-◌, ◌*◌, ◌/◌, ◌%◌, ◌^◌, ◌<◌, ◌≤◌, ◌==◌, nat_lt, Bool, true, false, if◌then◌else◌, List, [], ◌∷◌, length, map, set, Option, None, Some, refl, sym, ap, subst, ◌∙◌, arith}
-use Rattle.std.proofs.Math.Nat.{mul-le-mul_left, mul_comm}
-use Rattle.std.proofs.lemmas.Bool.{cases_lt, lt-ltb, ltb-false, le-ltb, eqb-true}
+use Rattle.std.proofs.Math.Nat.{div-add-mod, mod-lt, mul-le-mul_left, mul_comm}
+use Rattle.std.proofs.lemmas.Bool.{cond-false, cond-true, cases_lt, lt-ltb, ltb-false, le-ltb, eqb-true}
 use Rattle.std.proofs.lemmas.List.{get_or-set_same, get_or-set_other}
 use Rattle.std.proofs.lemmas.Nat.{pow_pos, div-mul-add, mod-mul-add}
 use Rattle.cola_cell.specs.declared.cell.Reader.{Reader}
@@ -16,8 +16,7 @@ use Rattle.cola_cache.specs.Blocks.{last_in, forgotten}
 use Rattle.cola_run.specs.Cells.{IsOnDevice, block_cells, block_number, device_levels}
 use Rattle.cola_run.specs.Store.{slot_block, as_block, last_block, last_of, buffer_number, reader_number}
 use Rattle.cola_run.specs.Turns.{buffer_index}
-use Rattle.cola_run.proofs.Numbers.{split, block-is, block-within, block-behind}
-use Rattle.cola_run.proofs.Spots.{choose-then, choose-else}
+use Rattle.cola_run.proofs.Numbers.{block-is, block-within, block-behind}
 
 -- the block of a slot that has a number, by its level, slot and number there
 pub slot-block-is : (first more m s r : ℕ) → m ≤ more → s < 2 → r < 2 ^ m → slot_block first more ((2 + s) * 2 ^ m + r) ≡ record { level = first + m; slot = s; number = r }
@@ -38,7 +37,7 @@ slot-block-is first (suc more) m s r few slot within = elim (cases_lt m (suc mor
         | inr h ↦ (let e : s ≡ 1 = omega (arith, h, slot) in rw e (omega arith))
       ] in
       let small : (2 + s) * 2 ^ m + r < 2 ^ (suc more + 1) = omega (arith, next_power m (suc m) (omega arith), next_power (suc m) (suc m + 1) (omega arith), more_is, two, within) in
-      choose-then (nat_lt ((2 + s) * 2 ^ m + r) (2 ^ (suc more + 1))) (slot_block first more ((2 + s) * 2 ^ m + r))
+      cond-true (nat_lt ((2 + s) * 2 ^ m + r) (2 ^ (suc more + 1))) (slot_block first more ((2 + s) * 2 ^ m + r))
       (record { level = first + suc more; slot = ((2 + s) * 2 ^ m + r) / 2 ^ suc more - 2; number = ((2 + s) * 2 ^ m + r) % 2 ^ suc more }) (lt-ltb ((2 + s) * 2 ^ m + r) (2 ^ (suc more + 1)) small)
       ∙ slot-block-is first more m s r (omega (arith, below)) slot within
   | inr above ↦
@@ -48,7 +47,7 @@ slot-block-is first (suc more) m s r few slot within = elim (cases_lt m (suc mor
       let twice : 2 ^ (suc more + 1) ≡ 2 ^ suc more + 2 ^ suc more = next_power (suc more) (suc more + 1) (omega arith) in
       let large : 2 ^ (suc more + 1) ≤ (2 + s) * 2 ^ suc more + r = (let x : (2 + s) * 2 ^ suc more ≡ 2 * 2 ^ suc more + s * 2 ^ suc more = omega arith in omega (arith, twice, x)) in
       let slots : ((2 + s) * 2 ^ suc more + r) / 2 ^ suc more - 2 ≡ s = (let q = div-mul-add (2 + s) (2 ^ suc more) r here in omega (arith, q)) in
-      choose-else (nat_lt ((2 + s) * 2 ^ suc more + r) (2 ^ (suc more + 1))) (slot_block first more ((2 + s) * 2 ^ suc more + r))
+      cond-false (nat_lt ((2 + s) * 2 ^ suc more + r) (2 ^ (suc more + 1))) (slot_block first more ((2 + s) * 2 ^ suc more + r))
       (record { level = first + suc more; slot = ((2 + s) * 2 ^ suc more + r) / 2 ^ suc more - 2; number = ((2 + s) * 2 ^ suc more + r) % 2 ^ suc more }) (le-ltb ((2 + s) * 2 ^ suc more + r) (2 ^ (suc more + 1)) large)
       ∙ ap (λ (x : ℕ). record { level = first + suc more; slot = x; number = ((2 + s) * 2 ^ suc more + r) % 2 ^ suc more }) slots
       ∙ ap (λ (x : ℕ). record { level = first + suc more; slot = s; number = x }) (mod-mul-add (2 + s) (2 ^ suc more) r here))
@@ -71,12 +70,10 @@ slot-block-back first (suc more) k behind = by-test (nat_lt k (2 ^ (suc more + 1
         let large : 2 ^ (suc more + 1) ≤ k = ltb-false k (2 ^ (suc more + 1)) e in
         let twice : 2 ^ (suc more + 1) ≡ 2 ^ suc more + 2 ^ suc more = next_power (suc more) (suc more + 1) (omega arith) in
         let levels : first + suc more - first ≡ suc more = omega arith in
-        let s = split (2 ^ suc more) k (pow_pos (suc more)) in
-        let i = s.is in
-        let r = s.rest in
+        let i = div-add-mod k (2 ^ suc more) in
         let two : 2 ≤ k / 2 ^ suc more = elim (cases_lt (k / 2 ^ suc more) 2) [
           | inr h ↦ h
-          | inl h ↦ absurd (let m : 2 ^ suc more * (k / 2 ^ suc more) ≤ 2 ^ suc more * 1 = mul-le-mul_left (2 ^ suc more) (let x : k / 2 ^ suc more ≤ 1 = omega (arith, h) in x) in omega (arith, m, i, r, large, twice))
+          | inl h ↦ absurd (omega (arith, mul-le-mul_left {m = k / 2 ^ suc more} {n = 1} (2 ^ suc more) (omega (arith, h)), i, mod-lt k (pow_pos (suc more)), large, twice))
         ] in
         let up : 2 + (k / 2 ^ suc more - 2) ≡ k / 2 ^ suc more = omega (arith, two) in
         rw (levels, up) (omega (arith, mul_comm (k / 2 ^ suc more) (2 ^ suc more), i))
@@ -87,7 +84,7 @@ block-number-is g l s i fits high p =
     let low : l < g.bottom + 1 = p.level_in in
     let two : 2 ≤ block_number g l s i = block-behind g.block_exp l s i high in
     let levels : g.block_exp - 2 + (l + 2 - g.block_exp) ≡ l = omega (arith, fits.group, high) in
-    choose-else (nat_lt (block_number g l s i) 2) None (Some (slot_block (g.block_exp - 2) (g.bottom + 2 - g.block_exp) (block_number g l s i))) (le-ltb (block_number g l s i) 2 two)
+    cond-false (nat_lt (block_number g l s i) 2) None (Some (slot_block (g.block_exp - 2) (g.bottom + 2 - g.block_exp) (block_number g l s i))) (le-ltb (block_number g l s i) 2 two)
     ∙ ap (λ (k : ℕ). Some (slot_block (g.block_exp - 2) (g.bottom + 2 - g.block_exp) k)) (block-is g.block_exp l s i high)
     ∙ ap (λ (b : Block). Some b) (slot-block-is (g.block_exp - 2) (g.bottom + 2 - g.block_exp) (l + 2 - g.block_exp) s (i / block_cells g) (omega (arith, low)) p.slot_in (block-within g.block_exp l s i high p.index_in))
     ∙ ap (λ (x : ℕ). Some (record { level = x; slot = s; number = i / block_cells g })) levels
@@ -130,41 +127,34 @@ readers-differ Sample Sample e = refl
 pub others-stay : (g : Geometry) (lasts : List (Option ℕ)) (reader : Option Reader) (level : ℕ) (now : Option ℕ) (other : Buffer) → g.block_exp ≤ level + 2 → other ≢ buffer_for reader level →
     last_of g (set lasts (buffer_index g reader level) now) other ≡ last_of g lasts other
 others-stay g lasts None level now Search high apart = absurd (apart refl)
-others-stay g lasts None level now (By r l) high apart = by-test (nat_lt (l + 2) g.block_exp)
-  where
-    by-test : (t : Bool) → (if t then None else last_block g (last_in (set lasts 0 now) (buffer_number g r l))) ≡ (if t then None else last_block g (last_in lasts (buffer_number g r l)))
-    by-test true = refl
-    by-test false = ap (λ (x : Option ℕ). last_block g x) (get_or-set_other lasts 0 (buffer_number g r l) now None (λ e. omega (arith, e)))
 others-stay g lasts (Some q) level now Search high apart = ap (λ (x : Option ℕ). last_block g x) (get_or-set_other lasts (buffer_number g q level) 0 now None (λ e. omega (arith, e)))
-others-stay g lasts (Some q) level now (By r l) high apart = by-test (nat_lt (l + 2) g.block_exp) refl
+others-stay g lasts reader level now (By r l) high apart = by-test (nat_lt (l + 2) g.block_exp) refl
   where
-    by-test : (t : Bool) → nat_lt (l + 2) g.block_exp ≡ t → (if t then None else last_block g (last_in (set lasts (buffer_number g q level) now) (buffer_number g r l))) ≡ (if t then None else last_block g (last_in lasts (buffer_number g r l)))
+    differ : (other : Option Reader) → By r l ≢ buffer_for other level → g.block_exp ≤ l + 2 → buffer_number g r l ≢ buffer_index g other level
+    differ None apart here same = omega (arith, same)
+    differ (Some q) apart here same =
+        let levels : l ≡ level = omega (arith, same, here, high, reader-within r, reader-within q) in
+        apart (ap (λ (z : Reader). By z l) (readers-differ r q (omega (arith, same, here, high, reader-within r, reader-within q))) ∙ ap (λ (z : ℕ). By q z) levels)
+
+    by-test : (t : Bool) → nat_lt (l + 2) g.block_exp ≡ t → (if t then None else last_block g (last_in (set lasts (buffer_index g reader level) now) (buffer_number g r l)))
+        ≡ (if t then None else last_block g (last_in lasts (buffer_number g r l)))
     by-test true e = refl
-    by-test false e =
-        let here : g.block_exp ≤ l + 2 = ltb-false (l + 2) g.block_exp e in
-        let x = reader-within r in
-        ap (λ (x : Option ℕ). last_block g x) (get_or-set_other lasts (buffer_number g q level) (buffer_number g r l) now None
-        (λ same.
-        let levels : l ≡ level = omega (arith, same, here, high, x, reader-within q) in
-        apart (ap (λ (z : Reader). By z l) (readers-differ r q (omega (arith, same, here, high, x, reader-within q))) ∙ ap (λ (z : ℕ). By q z) levels)))
+    by-test false e = ap (λ (x : Option ℕ). last_block g x) (get_or-set_other lasts (buffer_index g reader level) (buffer_number g r l) now None (differ reader apart (ltb-false (l + 2) g.block_exp e)))
 
--- and what that one has
-pub own-set : (g : Geometry) (lasts : List (Option ℕ)) (reader : Option Reader) (level : ℕ) (now : Option ℕ) → g.block_exp ≤ level + 2 → buffer_index g reader level < length lasts →
-    last_of g (set lasts (buffer_index g reader level) now) (buffer_for reader level) ≡ last_block g now
-own-set g lasts None level now high within = ap (λ (x : Option ℕ). last_block g x) (get_or-set_same lasts 0 now None within)
-own-set g lasts (Some q) level now high within =
-    choose-else (nat_lt (level + 2) g.block_exp) None (last_block g (last_in (set lasts (buffer_number g q level) now) (buffer_number g q level))) (le-ltb (level + 2) g.block_exp high)
-    ∙ ap (λ (x : Option ℕ). last_block g x) (get_or-set_same lasts (buffer_number g q level) now None within)
-
+-- what the buffer of a reader has, and what it has once it was set
 pub own-is : (g : Geometry) (lasts : List (Option ℕ)) (reader : Option Reader) (level : ℕ) → g.block_exp ≤ level + 2 → last_of g lasts (buffer_for reader level) ≡ last_block g (last_in lasts (buffer_index g reader level))
 own-is g lasts None level high = refl
-own-is g lasts (Some q) level high = choose-else (nat_lt (level + 2) g.block_exp) None (last_block g (last_in lasts (buffer_number g q level))) (le-ltb (level + 2) g.block_exp high)
+own-is g lasts (Some q) level high = cond-false (nat_lt (level + 2) g.block_exp) None (last_block g (last_in lasts (buffer_number g q level))) (le-ltb (level + 2) g.block_exp high)
+
+pub own-set : (g : Geometry) (lasts : List (Option ℕ)) (reader : Option Reader) (level : ℕ) (now : Option ℕ) → g.block_exp ≤ level + 2 → buffer_index g reader level < length lasts →
+    last_of g (set lasts (buffer_index g reader level) now) (buffer_for reader level) ≡ last_block g now
+own-set g lasts reader level now high within =
+    own-is g (set lasts (buffer_index g reader level) now) reader level high ∙ ap (λ (x : Option ℕ). last_block g x) (get_or-set_same lasts (buffer_index g reader level) now None within)
 
 -- there is a buffer for each
 pub buffer-within : (g : Geometry) (reader : Option Reader) (level : ℕ) → IsOnDevice g level → buffer_index g reader level < 1 + 3 * device_levels g
 buffer-within g None level device = omega arith
-buffer-within g (Some q) level device =
-    omega (arith, device.within, device.whole, reader-within q)
+buffer-within g (Some q) level device = omega (arith, device.within, device.whole, reader-within q)
 
 -- what a buffer has after a block was written
 map-forgotten : (block : ℕ) (lasts : List (Option ℕ)) (n : ℕ) → last_in (map (forgotten block) lasts) n ≡ forgotten block (last_in lasts n)

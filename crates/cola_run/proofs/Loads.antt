@@ -19,8 +19,8 @@ use Rattle.cola_run.specs.Cells.{IsOnDevice, Lower, block_cells, block_bytes, de
 use Rattle.cola_run.specs.Parts.{OneShadow, IsFinished}
 use Rattle.cola_run.specs.Loading.{IsReading, IsWriting, StaySound, StayRead}
 use Rattle.cola_run.proofs.Bytes.{block-from, block-cell, block-stays, block-is_new}
-use Rattle.cola_run.proofs.Numbers.{same-block, place-is, tail-block, first-place}
-use Rattle.cola_run.proofs.Spots.{in-tail, both-two, if-told}
+use Rattle.cola_run.proofs.Numbers.{same-block, place-is, tail-block}
+use Rattle.cola_run.proofs.Spots.{in-tail, no-tail, both-two, if-told}
 use Rattle.cola_run.proofs.Steps.{tail-first, tail-holds}
 use Rattle.cola_run.proofs.Lowers.{around-same, TailsStay, backed-by, shape-by}
 use Rattle.cola_run.proofs.Standing.{shadow-shape, shadow-backed}
@@ -68,8 +68,7 @@ sound-shadow g old new level shadow told tails one stands whole = record {
   backed = λ front h b. shadow-backed g front front old new level shadow h told tails one b
       (if-told old.told (λ b on e i t.
       let now = shadow_at new.shadows level in
-      let q = in-tail (block_cells g) now now.slot i t in
-      absurd (omega (arith, q.within, first-place (block_cells g) i now.len (pow_pos g.block_exp) q.block_is (ap (λ (x : Shadow). x.len % block_cells g) one.is ∙ (whole on).1)))));
+      absurd (no-tail (block_cells g) now now.slot i (pow_pos g.block_exp) (ap (λ (x : Shadow). x.len % block_cells g) one.is ∙ (whole on).1) (in-tail (block_cells g) now now.slot i t))));
 }
 
 -- tails in which one was filled
@@ -78,8 +77,7 @@ module _ (g : Geometry) (fits : IsBlock g.block_exp g.bottom) (tails copy : List
   begin = ap (λ (n : ℕ). width g.format * n) (tail-first g level) ∙ sym (block-from g.format (block_cells g) (level + 2 - g.block_exp))
 
   holds : width g.format * (block_cells g * (level + 2 - g.block_exp)) ≤ length tails
-  holds =
-      omega (arith, tail-holds g tails level device many, ap (λ (n : ℕ). width g.format * n) (tail-first g level))
+  holds = omega (arith, tail-holds g tails level device many, ap (λ (n : ℕ). width g.format * n) (tail-first g level))
 
   pub filled-many : length (splice tails (width g.format * tail_number g level 0) copy) ≡ length tails
   filled-many = let h = tail-holds g tails level device many in length-splice tails (width g.format * tail_number g level 0) copy (omega (arith, h, whole))

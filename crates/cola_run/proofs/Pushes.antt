@@ -1,7 +1,8 @@
 -- What a push to the shadow of a level on the device leaves of the cells.
-use Rattle.std.proofs.Common.{◌≡◌, ◌≢◌, ◌⊎◌, inl, inr, ℕ, ◌+◌, ◌*◌, ◌/◌, ◌%◌, ◌^◌, ◌<◌, ◌≤◌, Bool, true, false, List, length, Option, None, Some, IfSome, Result, Ok, Err, refl, sym, ap, subst, ◌∙◌, arith}
+use Rattle.std.proofs.Common.{◌≡◌, ◌≢◌, ◌⊎◌, inl, inr, ℕ, ◌+◌, ◌*◌, ◌/◌, ◌%◌, ◌<◌, ◌≤◌, Bool, true, false, List, length, Option, Some, IfSome, Result, Ok, Err, refl, sym, ap, subst, ◌∙◌, arith}
 use Rattle.std.proofs.lemmas.Bool.{cases_eq, eqb-true, eqb-false, false≢true}
 use Rattle.std.proofs.lemmas.Nat.{pow_pos}
+use Rattle.std.specs.Option.{unwrap_or}
 use Rattle.cola_outside.specs.Told.{Both}
 use Rattle.cola_cell.specs.declared.cell.Cell.{Cell}
 use Rattle.cola_cell.specs.declared.fault.PushFault.{PushFault}
@@ -9,7 +10,6 @@ use Rattle.cola_cell.specs.declared.fault.PushFault.TheVariants.{Device, Overful
 use Rattle.cola_cell.specs.declared.sink.Shadow.{Shadow}
 use Rattle.cola_cell.specs.Decoded.{spelling, spot_of_bytes}
 use Rattle.cola_cell.specs.Flat.{shadow_at}
-use Rattle.cola_cell.specs.Format.{width}
 use Rattle.cola_cell.specs.Held.{as_cell, with_cell, IsElsewhere}
 use Rattle.cola_cell.proofs.DecodedLemmas.{spot_told}
 use Rattle.cola_cell.specs.Places.{slot_size, number_of, IsPlace}
@@ -20,8 +20,8 @@ use Rattle.cola_layout.specs.declared.geometry.Geometry.{Geometry}
 use Rattle.cola_layout.proofs.Powers.{power-le}
 use Rattle.cola_run.specs.Cells.{IsOnDevice, Lower, block_cells, block_bytes, file_bytes, block_number, tail_number, device_cell, Cells, known_spot, told_spot, spots_of, IsShadow, IsShape, IsSaved, IsBacked, cells_by}
 use Rattle.cola_run.specs.Parts.{tail_of, fills, TailPushed, MetFault, IsPushed}
-use Rattle.cola_run.proofs.Numbers.{IsMore, IsFull, next-split, one-place, last-place, first-place}
-use Rattle.cola_run.proofs.Spots.{both-all, both-so, both-same, both-with, both-second, with-told, IsInTail, in-tail, device-in, device-out, device-is, spot-there, spot-device, spots-stay, known-told}
+use Rattle.cola_run.proofs.Numbers.{next-full, next-same, one-place, last-place}
+use Rattle.cola_run.proofs.Spots.{no-tail, both-all, both-so, both-same, both-with, both-second, with-told, IsInTail, in-tail, device-in, device-out, device-is, spot-there, spot-device, spots-stay, known-told}
 use Rattle.cola_run.proofs.Steps.{tail_many, tail-cell, put-many, put-there, put-stays, written-there}
 use Rattle.cola_run.proofs.Lowers.{IsAround, around-same, around-written, TailsStay, other-cell, backed-by, shape-by}
 
@@ -33,19 +33,12 @@ data Way (g : Geometry) (tails b c : List ℕ) (level : ℕ) (shadow now : Shado
   Full : fills g shadow.len ≡ true → c ≡ splice b (block_number g level shadow.slot shadow.len * block_bytes g) (tail_of g tails level)
       → now ≡ record { slot = shadow.slot; len = shadow.len + 1; saved = fills g shadow.len } → Way g tails b c level shadow now
 
-some-same : (x y : List ℕ) → Some x ≡ Some y → x ≡ y
-some-same x y e = ap (λ (o : Option (List ℕ)). get o) e
-  where
-    get : Option (List ℕ) → List ℕ
-    get None = x
-    get (Some z) = z
-
 way-by : (g : Geometry) (tails b c : List ℕ) (level : ℕ) (shadow : Shadow) {T : Type 0} (result : Result T PushFault) (t : Bool) → fills g shadow.len ≡ t → MetFault result
     → TailPushed t result g tails level shadow.slot shadow.len (Some b) (Some c) → Way g tails b c level shadow (after_push (block_cells g) shadow result)
 way-by g tails b c level shadow (Ok value) true e fault w =
     Full e (let v : WroteSome (Ok value) (block_number g level shadow.slot shadow.len * block_bytes g) (tail_of g tails level) b c = w in
     v.others_stay ∙ ap (λ (left : List ℕ). splice b (block_number g level shadow.slot shadow.len * block_bytes g) left) v.exact) refl
-way-by g tails b c level shadow (Ok value) false e fault w = More e (some-same c b w.0) refl
+way-by g tails b c level shadow (Ok value) false e fault w = More e (ap (λ (o : Option (List ℕ)). unwrap_or o c) w.0) refl
 way-by g tails b c level shadow (Err Device) true e fault w =
     Refused e w.left w.as_many w.others_stay refl
 way-by g tails b c level shadow (Err Device) false e fault w = absurd (false≢true w.1)
@@ -68,48 +61,39 @@ module _ (g : Geometry) (front : FrontCells) (old new : Lower) (level : ℕ) (ce
   place : IsPlace (g.bottom + 1) level shadow.slot shadow.len
   place = record { level_in = (let low : level ≤ g.bottom = device.within in omega (arith, low)); slot_in = stands.slot_in; index_in = room }
 
-  long : length (spelling g.format cell) ≡ width g.format
-  long = pushed.spelled.size
-
   tails-many : length new.tails ≡ length old.tails
-  tails-many = ap (λ (xs : List ℕ). length xs) pushed.tails ∙ put-many g old.tails (spelling g.format cell) level shadow.len shape.block device shape.tails_many long
+  tails-many = ap (λ (xs : List ℕ). length xs) pushed.tails ∙ put-many g old.tails (spelling g.format cell) level shadow.len shape.block device shape.tails_many pushed.spelled.size
 
   tails-stay : TailsStay g old.tails new.tails level
-  tails-stay l i on apart = ap (λ (xs : List ℕ). cell_bytes g.format xs (tail_number g l i)) pushed.tails ∙ put-stays g old.tails (spelling g.format cell) level shadow.len shape.block device shape.tails_many long l i on (inl apart)
+  tails-stay l i on apart = ap (λ (xs : List ℕ). cell_bytes g.format xs (tail_number g l i)) pushed.tails
+      ∙ put-stays g old.tails (spelling g.format cell) level shadow.len shape.block device shape.tails_many pushed.spelled.size l i on (inl apart)
 
   tail-stays : (i : ℕ) → i % block_cells g ≢ shadow.len % block_cells g → cell_bytes g.format new.tails (tail_number g level i) ≡ cell_bytes g.format old.tails (tail_number g level i)
-  tail-stays i apart = ap (λ (xs : List ℕ). cell_bytes g.format xs (tail_number g level i)) pushed.tails ∙ put-stays g old.tails (spelling g.format cell) level shadow.len shape.block device shape.tails_many long level i device (inr apart)
+  tail-stays i apart = ap (λ (xs : List ℕ). cell_bytes g.format xs (tail_number g level i)) pushed.tails
+      ∙ put-stays g old.tails (spelling g.format cell) level shadow.len shape.block device shape.tails_many pushed.spelled.size level i device (inr apart)
 
   tail-there : cell_bytes g.format new.tails (tail_number g level shadow.len) ≡ spelling g.format cell
-  tail-there = ap (λ (xs : List ℕ). cell_bytes g.format xs (tail_number g level shadow.len)) pushed.tails ∙ put-there g old.tails (spelling g.format cell) level shadow.len shape.block device shape.tails_many long
+  tail-there = ap (λ (xs : List ℕ). cell_bytes g.format xs (tail_number g level shadow.len)) pushed.tails ∙ put-there g old.tails (spelling g.format cell) level shadow.len shape.block device shape.tails_many pushed.spelled.size
 
   whole : length (tail_of g new.tails level) ≡ block_bytes g
   whole = tail_many g new.tails level shape.block device (tails-many ∙ shape.tails_many)
 
-  more-of : fills g shadow.len ≡ false → IsMore (block_cells g) shadow.len
-  more-of e = elim (next-split (block_cells g) shadow.len some) [
-    | inl more ↦ more
-    | inr full ↦ absurd (eqb-false ((shadow.len + 1) % block_cells g) 0 e full.place_is)
-  ]
-
-  full-of : fills g shadow.len ≡ true → IsFull (block_cells g) shadow.len
-  full-of e = elim (next-split (block_cells g) shadow.len some) [
-    | inl more ↦ absurd (let z : (shadow.len + 1) % block_cells g ≡ 0 = eqb-true ((shadow.len + 1) % block_cells g) 0 e in let p = more.place_is in omega (arith, z, p))
-    | inr full ↦ full
-  ]
+  -- the next cell begins a block where the push fills one
+  begins : fills g shadow.len ≡ true → (shadow.len + 1) % block_cells g ≡ 0
+  begins = eqb-true ((shadow.len + 1) % block_cells g) 0
 
   -- a cell of the tail other than the one that was put
   in-old : (i : ℕ) → IsInTail (block_cells g) shadow shadow.slot i → cell_bytes g.format new.tails (tail_number g level i) ≡ cell_bytes g.format old.tails (tail_number g level i)
-  in-old i q = tail-stays i (λ e. let h : i < shadow.len = q.within in let same = one-place (block_cells g) i shadow.len some q.block_is e in omega (arith, h, same))
+  in-old i q = tail-stays i (λ e. omega (arith, q.within, one-place (block_cells g) i shadow.len some q.block_is e))
 
   -- a place of the shadow's slot that is not in the tail, and is not the shadow's end, is in another block where that is full
-  out-full : (s i : ℕ) → IsFull (block_cells g) shadow.len → (IsInTail (block_cells g) shadow s i → ⊥) → (s ≢ shadow.slot) ⊎ (i ≢ shadow.len) → (s ≢ shadow.slot) ⊎ (i / block_cells g ≢ shadow.len / block_cells g)
+  out-full : (s i : ℕ) → fills g shadow.len ≡ true → (IsInTail (block_cells g) shadow s i → ⊥) → (s ≢ shadow.slot) ⊎ (i ≢ shadow.len) → (s ≢ shadow.slot) ⊎ (i / block_cells g ≢ shadow.len / block_cells g)
   out-full s i full d apart = elim (cases_eq s shadow.slot) [
     | inr other ↦ inl other
     | inl same ↦ inr (λ e.
         elim apart [
           | inl h ↦ h same
-          | inr h ↦ d (record { slot_is = same; block_is = e; within = omega (arith, last-place (block_cells g) i shadow.len some e full.full, h) })
+          | inr h ↦ d (record { slot_is = same; block_is = e; within = omega (arith, last-place (block_cells g) i shadow.len some e (next-full (block_cells g) shadow.len some (begins full)), h) })
         ])
   ]
 
@@ -125,7 +109,7 @@ module _ (g : Geometry) (front : FrontCells) (old new : Lower) (level : ℕ) (ce
   this-cell b c s i holds (More e same is) p apart =
       let slots : now.slot ≡ shadow.slot = ap (λ (x : Shadow). x.slot) is in
       let lens : now.len ≡ shadow.len + 1 = ap (λ (x : Shadow). x.len) is in
-      let blocks : now.len / block_cells g ≡ shadow.len / block_cells g = ap (λ (n : ℕ). n / block_cells g) lens ∙ (more-of e).block_is in
+      let blocks : now.len / block_cells g ≡ shadow.len / block_cells g = ap (λ (n : ℕ). n / block_cells g) lens ∙ next-same (block_cells g) shadow.len some (eqb-false ((shadow.len + 1) % block_cells g) 0 e) in
       device-is g old.shadows old.tails b level s i (device_cell g new.shadows new.tails c level s i)
       (λ q.
       let h : i < shadow.len = q.within in
@@ -151,15 +135,9 @@ module _ (g : Geometry) (front : FrontCells) (old new : Lower) (level : ℕ) (ce
       device-out g new.shadows new.tails c level s i
       (λ q.
       d (record { slot_is = q.slot_is ∙ slots; block_is = q.block_is ∙ ap (λ (n : ℕ). n / block_cells g) lens; within = omega (arith, q.within, lens) }))
-      ∙ (around b c now holds (Refused e left many at is)).stays level s i device.whole p (inr (out-full s i (full-of e) d apart)))
+      ∙ (around b c now holds (Refused e left many at is)).stays level s i device.whole p (inr (out-full s i e d apart)))
   this-cell b c s i holds (Full e at is) p apart =
-      let full = full-of e in
-      let lens : now.len ≡ shadow.len + 1 = ap (λ (x : Shadow). x.len) is in
-      let none : IsInTail (block_cells g) now s i → ⊥ =
-      λ q.
-      let h : i < now.len = q.within in
-      let begin : now.len ≤ i = first-place (block_cells g) i now.len some q.block_is (ap (λ (n : ℕ). n % block_cells g) lens ∙ full.place_is) in
-      omega (arith, h, begin) in
+      let none = no-tail (block_cells g) now s i some (ap (λ (x : Shadow). x.len % block_cells g) is ∙ begins e) in
       device-is g old.shadows old.tails b level s i (device_cell g new.shadows new.tails c level s i)
       (λ q.
       device-out g new.shadows new.tails c level s i none
@@ -168,7 +146,7 @@ module _ (g : Geometry) (front : FrontCells) (old new : Lower) (level : ℕ) (ce
       ∙ in-old i (record { slot_is = refl; block_is = q.block_is; within = q.within }))
       (λ d.
       device-out g new.shadows new.tails c level s i none
-      ∙ (around b c now holds (Full e at is)).stays level s i device.whole p (inr (out-full s i full d apart)))
+      ∙ (around b c now holds (Full e at is)).stays level s i device.whole p (inr (out-full s i e d apart)))
     where
       there : (b c : List ℕ) → file_bytes g ≤ length b → c ≡ splice b (block_number g level shadow.slot shadow.len * block_bytes g) (tail_of g new.tails level) → (i : ℕ) → i / block_cells g ≡ shadow.len / block_cells g
           → cell_bytes g.format c (number_of level shadow.slot i) ≡ cell_bytes g.format new.tails (tail_number g level i)
@@ -183,16 +161,13 @@ module _ (g : Geometry) (front : FrontCells) (old new : Lower) (level : ℕ) (ce
       let slots : now.slot ≡ shadow.slot = ap (λ (x : Shadow). x.slot) is in
       let lens : now.len ≡ shadow.len + 1 = ap (λ (x : Shadow). x.len) is in
       device-in g new.shadows new.tails c level shadow.slot shadow.len
-      (record { slot_is = sym slots; block_is = sym (ap (λ (n : ℕ). n / block_cells g) lens ∙ (more-of e).block_is); within = omega (arith, lens) })
+      (record { slot_is = sym slots; block_is = sym (ap (λ (n : ℕ). n / block_cells g) lens ∙ next-same (block_cells g) shadow.len some (eqb-false ((shadow.len + 1) % block_cells g) 0 e)); within = omega (arith, lens) })
       ∙ tail-there
   end-cell b c holds value ok (Refused e left many at is) =
       let lens : now.len ≡ shadow.len = ap (λ (x : Shadow). x.len) is in
       absurd (omega (arith, lens, ap (λ (x : Shadow). x.len) (pushed.longer.shadow.is ∙ ap (λ (r : Result T PushFault). after_push (block_cells g) shadow r) ok)))
   end-cell b c holds value ok (Full e at is) =
-      let lens : now.len ≡ shadow.len + 1 = ap (λ (x : Shadow). x.len) is in
-      device-out g new.shadows new.tails c level shadow.slot shadow.len
-      (λ q.
-      omega (arith, first-place (block_cells g) shadow.len now.len some q.block_is (ap (λ (n : ℕ). n % block_cells g) lens ∙ (full-of e).place_is), lens))
+      device-out g new.shadows new.tails c level shadow.slot shadow.len (no-tail (block_cells g) now shadow.slot shadow.len some (ap (λ (x : Shadow). x.len % block_cells g) is ∙ begins e))
       ∙ ap (λ (xs : List ℕ). cell_bytes g.format xs (number_of level shadow.slot shadow.len)) at
       ∙ written-there g shape.block level shadow.slot shadow.len device.whole place b (tail_of g new.tails level) holds whole shadow.len refl
       ∙ tail-cell g new.tails level shadow.len
@@ -212,6 +187,10 @@ module _ (g : Geometry) (front : FrontCells) (old new : Lower) (level : ℕ) (ce
       by-test false e w =
           subst (λ (x : Option (List ℕ)). Both old.told x (λ b c. Way g new.tails b c level shadow now)) (sym w.0)
           (both-same old.told (λ b c. Way g new.tails b c level shadow now) (λ b. back b b (way-by g new.tails b b level shadow result false e pushed.longer.fault (refl, w.1))))
+
+  -- the device tells its bytes where it told them before
+  pub push-told : Both old.told new.told (λ _ _. Unit {0})
+  push-told = both-so old.told new.told (λ b c. Way g new.tails b c level shadow now) (λ _ _. Unit {0}) (λ _ _ _. tt) way-told
 
   abbrev ways : IfSome old.told (IsBacked g old.shadows old.tails) → Both old.told new.told (λ b c. IsBacked g old.shadows old.tails b × Way g new.tails b c level shadow now)
   ways backed = both-with old.told new.told (IsBacked g old.shadows old.tails) (λ b c. Way g new.tails b c level shadow now) backed way-told
@@ -268,7 +247,7 @@ module _ (g : Geometry) (front : FrontCells) (old new : Lower) (level : ℕ) (ce
           → (after_push (block_cells g) shadow r).len % block_cells g ≢ 0
       by-result (Ok value) t e fault w is = eqb-false ((shadow.len + 1) % block_cells g) 0 is
       by-result (Err Device) true e fault w is =
-          λ z. omega (arith, (full-of e).full, power-le 3 g.block_exp shape.block.group, z)
+          λ z. omega (arith, next-full (block_cells g) shadow.len some (begins e), power-le 3 g.block_exp shape.block.group, z)
       by-result (Err Device) false e fault w is = absurd (false≢true w.1)
       by-result (Err (Overfull l)) t e fault w is = absurd fault
 
@@ -279,11 +258,8 @@ module _ (g : Geometry) (front : FrontCells) (old new : Lower) (level : ℕ) (ce
   after-saved : (b c : List ℕ) → Way g new.tails b c level shadow now → (after_push (block_cells g) shadow result).saved ≡ true → IsSaved g new.shadows new.tails c level
   after-saved b c (More e same is) saved = absurd (false≢true (sym e ∙ sym (ap (λ (x : Shadow). x.saved) (sym pushed.longer.shadow.is ∙ is)) ∙ saved))
   after-saved b c (Refused e left many at is) saved = absurd (false≢true (sym (ap (λ (x : Shadow). x.saved) (sym pushed.longer.shadow.is ∙ is)) ∙ saved))
-  after-saved b c (Full e at is) saved =
-      λ i t.
-      let q = in-tail (block_cells g) now now.slot i t in
-      let lens : now.len ≡ shadow.len + 1 = ap (λ (x : Shadow). x.len) is in
-      absurd (omega (arith, q.within, first-place (block_cells g) i now.len some q.block_is (ap (λ (n : ℕ). n % block_cells g) lens ∙ (full-of e).place_is)))
+  after-saved b c (Full e at is) saved = λ i t.
+      absurd (no-tail (block_cells g) now now.slot i some (ap (λ (x : Shadow). x.len % block_cells g) is ∙ begins e) (in-tail (block_cells g) now now.slot i t))
 
   pub push-backed : IfSome old.told (IsBacked g old.shadows old.tails) → IfSome new.told (IsBacked g new.shadows new.tails)
   push-backed backed =

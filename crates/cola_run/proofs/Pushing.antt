@@ -1,7 +1,6 @@
 -- That pushes to levels on the device meet the trait.
-use Rattle.std.proofs.Common.{◌≡◌, ◌≢◌, ℕ, ◌+◌, ◌*◌, ◌%◌, ◌<◌, ◌≤◌, Bool, true, false, List, length, Option, option_map, Result, Ok, Err, refl, sym, ap, subst, ◌∙◌, arith}
+use Rattle.std.proofs.Common.{◌≡◌, ℕ, ◌+◌, ◌*◌, ◌%◌, ◌<◌, Bool, true, false, List, length, Option, option_map, Result, Ok, Err, refl, sym, ap, ◌∙◌, arith}
 use Rattle.std.proofs.lemmas.Bool.{eqb-true, false_from_ne_true}
-use Rattle.cola_outside.specs.Told.{Both}
 use Rattle.cola_cell.specs.declared.cell.Cell.{Cell}
 use Rattle.cola_cell.specs.declared.fault.PushFault.{PushFault}
 use Rattle.cola_cell.specs.declared.fault.PushFault.TheVariants.{Device, Overfull}
@@ -10,20 +9,17 @@ use Rattle.cola_cell.specs.Flat.{shadow_at}
 use Rattle.cola_cell.specs.Format.{width}
 use Rattle.cola_cell.specs.Places.{slot_size, IsPlace}
 use Rattle.cola_cell.specs.Spent.{Ticks}
-use Rattle.cola_cell.specs.Shadows.{StaysAround, after_push, PushAnswers, Pushes, push_ticks, PushSpends}
+use Rattle.cola_cell.specs.Shadows.{after_push, PushAnswers, Pushes, push_ticks, PushSpends}
 use Rattle.cola_device.specs.declared.counts.Counts.{Counts}
-use Rattle.cola_device.specs.Bytes.{WroteSome}
-use Rattle.cola_front.specs.Front.{FrontCells}
 use Rattle.cola_layout.specs.declared.geometry.Geometry.{Geometry}
-use Rattle.cola_run.specs.Cells.{IsOnDevice, Lower, block_cells, block_bytes, device_levels, block_number, spots_of, IsShape, cells_by}
-use Rattle.cola_run.specs.Store.{Store, IsStore, cells_of, held_of, state_of, kept_of, beside}
-use Rattle.cola_run.specs.Parts.{fills, TailPushed, tail_of, MetFault, IsPushed}
+use Rattle.cola_run.specs.Cells.{IsOnDevice, Lower, block_cells, device_levels, block_number, IsShape}
+use Rattle.cola_run.specs.Store.{Store, IsStore, cells_of, state_of, kept_of, beside}
+use Rattle.cola_run.specs.Parts.{fills, TailPushed, MetFault, IsPushed}
 use Rattle.cola_run.specs.Turns.{Writing}
 use Rattle.cola_run.proofs.Steps.{tail_many}
 use Rattle.cola_run.proofs.Reading.{span-is}
-use Rattle.cola_run.proofs.Spots.{both-so, both-same}
-use Rattle.cola_run.proofs.Pushes.{push-stays, push-end, push-shape, push-backed}
-use Rattle.cola_run.proofs.Sinks.{beside-tail, long-of, kept-by, HasCauseOf, cause-of, calm-of, lasts-many, sound-by, around-by, spends-nothing, spends-writes}
+use Rattle.cola_run.proofs.Pushes.{push-told, push-stays, push-end, push-shape, push-backed}
+use Rattle.cola_run.proofs.Sinks.{beside-tail, long-of, kept-by, HasCauseOf, cause-of, calm-of, lasts-many, sound-by, spots-by, around-by, spends-nothing, spends-writes}
 
 -- a push to a level on the device
 module _ {D K T : Type 0} (bytes : D → Option (List ℕ)) (counts : D → Counts) (kept : D → K) (store now : Store D) (level : ℕ) (cell : Cell) (result : Result T PushFault)
@@ -42,15 +38,7 @@ module _ {D K T : Type 0} (bytes : D → Option (List ℕ)) (counts : D → Coun
   shape = sound.cells.shape
 
   place : IsPlace (g.bottom + 1) level shadow.slot shadow.len
-  place =
-      record { level_in = omega (arith, device.within); slot_in = (shape.shadows_fit level device.within).slot_in; index_in = room }
-
-  told-both : Both (bytes store.buffers.cache.device) (bytes now.buffers.cache.device) (λ _ _. Unit {0})
-  told-both = by-test (fills g shadow.len) pushed.longer.device
-    where
-      by-test : (t : Bool) → TailPushed t result g now.tails level shadow.slot shadow.len (bytes store.buffers.cache.device) (bytes now.buffers.cache.device) → Both (bytes store.buffers.cache.device) (bytes now.buffers.cache.device) (λ _ _. Unit {0})
-      by-test true w = both-so (bytes store.buffers.cache.device) (bytes now.buffers.cache.device) (WroteSome result (block_number g level shadow.slot shadow.len * block_bytes g) (tail_of g now.tails level)) (λ _ _. Unit {0}) (λ _ _ _. tt) w
-      by-test false w = subst (λ (x : Option (List ℕ)). Both (bytes store.buffers.cache.device) x (λ _ _. Unit {0})) (sym w.0) (both-same (bytes store.buffers.cache.device) (λ _ _. Unit {0}) (λ _. tt))
+  place = record { level_in = omega (arith, device.within); slot_in = (shape.shadows_fit level device.within).slot_in; index_in = room }
 
   abbrev lower : Lower
   lower = (cells_of (bytes store.buffers.cache.device) store).lower
@@ -76,25 +64,18 @@ module _ {D K T : Type 0} (bytes : D → Option (List ℕ)) (counts : D → Coun
           (tail_many g now.tails level shape.block device tails-now) (long-of g store.shadows store.tails (bytes store.buffers.cache.device) sound.cells.backed) w
       by-test false w = ap (λ (x : Option (List ℕ)). option_map (beside g) x) w.0
 
-  -- what the cells of the store were and are, with one geometry and one front
-  spots-now : (l s i : ℕ) → spots_of (cells_of (bytes now.buffers.cache.device) now) l s i ≡ spots_of (cells_by g store.front lower-now) l s i
-  spots-now l s i = ap (λ (x : Geometry). spots_of (cells_by x now.front lower-now) l s i) same ∙ ap (λ (x : FrontCells). spots_of (cells_by g x lower-now) l s i) front
-
-  pub pushed-around : StaysAround (held_of bytes store) (held_of bytes now) level
-  pushed-around = around-by bytes store now level same writing.stays.made (λ l apart. pushed.longer.shadow.others l apart) told-both
-
   answers : (r : Result T PushFault) → r ≡ result → MetFault r → HasCauseOf r (counts store.buffers.cache.device).faults (counts now.buffers.cache.device).faults → PushAnswers (state_of bytes counts store) (state_of bytes counts now) level cell r
-  answers (Ok value) e fault cause = (room, spots-now level shadow.slot shadow.len ∙ push-end g store.front lower lower-now level cell result shape device room pushed sound.cells.backed value (sym e))
+  answers (Ok value) e fault cause = (room, spots-by (bytes now.buffers.cache.device) store now same front level shadow.slot shadow.len ∙ push-end g store.front lower lower-now level cell result shape device room pushed sound.cells.backed value (sym e))
   answers (Err Device) e fault cause = (room, cause)
   answers (Err (Overfull l)) e fault cause = absurd fault
 
   pub pushed-meets : Pushes (state_of bytes counts store) (state_of bytes counts now) level cell result
   pushed-meets = record {
-    around = pushed-around;
+    around = around-by bytes store now level same writing.stays.made pushed.longer.shadow.others (push-told g store.front lower lower-now level cell result shape device room pushed);
     answer = answers result refl pushed.longer.fault (cause-of result writing.called);
     calm = calm-of result pushed.longer.fault writing.called;
     shadow_is = pushed.longer.shadow.is ∙ ap (λ (n : ℕ). after_push n shadow result) (sym (span-is g shape.block));
-    others_stay = λ l s i apart. spots-now l s i ∙ push-stays g store.front lower lower-now level cell result shape device room pushed sound.cells.backed l s i apart;
+    others_stay = λ l s i apart. spots-by (bytes now.buffers.cache.device) store now same front l s i ∙ push-stays g store.front lower lower-now level cell result shape device room pushed sound.cells.backed l s i apart;
   }
 
   pub pushed-spends : PushSpends (state_of bytes counts store) (state_of bytes counts now) level result

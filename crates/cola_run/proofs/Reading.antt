@@ -2,6 +2,7 @@
 use Rattle.std.proofs.Common.{◌≡◌, inl, inr, ℕ, ◌+◌, ◌-◌, ◌*◌, ◌^◌, ◌<◌, ◌≤◌, List, length, set, Option, None, Some, IfSome, Result, Ok, Err, refl, sym, ap, subst, ◌∙◌, arith}
 use Rattle.std.specs.Prelude.{OnOk}
 use Rattle.std.proofs.lemmas.Nat.{pow-add}
+use Rattle.std.proofs.lemmas.Result.{on_ok_weaker}
 use Rattle.cola_cell.specs.declared.format.Format.{Format}
 use Rattle.cola_cell.specs.declared.cell.Cell.{Cell}
 use Rattle.cola_cell.specs.declared.cell.Reader.{Reader}
@@ -28,12 +29,21 @@ use Rattle.cola_run.specs.Parts.{Finds}
 use Rattle.cola_run.specs.Turns.{buffer_index, turned_last, Turns}
 use Rattle.cola_run.proofs.Calls.{spelled-fits}
 use Rattle.cola_run.proofs.Lasts.{block-number-is, held-is, others-stay, own-set, own-is, buffer-within}
-use Rattle.cola_run.proofs.Spots.{on-ok, IsInTail, device-in, device-out, spot-there, spot-front, spot-device, if-told}
+use Rattle.cola_run.proofs.Spots.{IsInTail, device-in, device-out, spot-there, spot-front, spot-device, if-told}
+
+-- a fact is one on Ok
+pub on-ok : {T E P : Type 0} (result : Result T E) → P → OnOk result P
+on-ok (Ok x) p = p
+on-ok (Err e) p = tt
 
 -- the cells of a block
 pub span-is : (g : Geometry) → IsBlock g.block_exp g.bottom → 8 * 2 ^ (g.block_exp - 3) ≡ block_cells g
 span-is g fits =
     sym (pow-add 2 3 (g.block_exp - 3)) ∙ ap (λ (n : ℕ). 2 ^ n) (omega (arith, fits.group))
+
+-- a slot of a level on the device is no less than a block
+pub not-small : (g : Geometry) (level : ℕ) → IsBlock g.block_exp g.bottom → g.block_exp ≤ level + 2 → slot_size level < 8 * 2 ^ (g.block_exp - 3) → ⊥
+not-small g level fits high h = omega (arith, h, span-is g fits, power-le g.block_exp (level + 2) high)
 
 -- what a place tells, where something is told
 pub tells-same : (x y : Spot) → x ≡ y → Tells x y
@@ -129,10 +139,6 @@ module _ {D : Type 0} (bytes : D → Option (List ℕ)) (counts : D → Counts) 
   moves-on (Ok value) e = moved value (sym e)
   moves-on (Err fault) e = tt
 
-  ok-so : {P Q : Type 0} (r : Result Cell ReadFault) → (P → Q) → OnOk r P → OnOk r Q
-  ok-so (Ok value) f h = f h
-  ok-so (Err fault) f h = tt
-
   in-last : last_of g store.buffers.lasts (buffer_for reader l) ≡ Some (block_of (span (held_of bytes store)) l s i) →
       StaysAt (spent_of counts store) (spent_of counts (record store { buffers = now; ticked = ticked })) (buffer_for reader l)
   in-last e =
@@ -140,10 +146,6 @@ module _ {D : Type 0} (bytes : D → Option (List ℕ)) (counts : D → Counts) 
       sym (own-is g store.buffers.lasts reader l device.whole) ∙ e ∙ ap (λ (n : ℕ). Some (block_of n l s i)) (span-is g fits) in
       let same : now ≡ store.buffers = turns.same (held-is g l s i (last_in store.buffers.lasts (buffer_index g reader l)) fits device.whole block) in
       record { turned_is = ap (λ (x : Blocks D). (counts x.cache.device).reads) same; last_is = ap (λ (x : Blocks D). last_of g x.lasts (buffer_for reader l)) same }
-
-  large : slot_size l < span (held_of bytes store) → ⊥
-  large h =
-      omega (arith, h, span-is g fits, power-le g.block_exp (l + 2) device.whole)
 
   abbrev held-by : Made → Option (List ℕ) → Held
   held-by made told = record (held_of bytes store) { fixed = record (held_of bytes store).fixed { made = record { reads = made.reads; faults = made.faults } }; spots = spots_of (cells_of told store) }
@@ -159,9 +161,9 @@ module _ {D : Type 0} (bytes : D → Option (List ℕ)) (counts : D → Counts) 
     turned_stays = turns.reads_stay;
     turned_rises = turns.reads_rise;
     in_last = in-last;
-    in_small = λ h. absurd (large h);
-    moves = ok-so result (λ h _. h) (moves-on result refl);
-    keeps = ok-so result (λ h _. inr h) (moves-on result refl);
+    in_small = λ h. absurd (not-small g l fits device.whole h);
+    moves = on_ok_weaker result (λ h _. h) (moves-on result refl);
+    keeps = on_ok_weaker result (λ h _. inr h) (moves-on result refl);
     others_stay = λ other apart.
         ap (λ (xs : List (Option ℕ)). last_of g xs other) turns.lasts_are ∙ others-stay g store.buffers.lasts reader l (turned_last (block_number g l s i) result) other device.whole apart;
   }

@@ -1,6 +1,6 @@
 -- The bytes of runs, where they lie, show the cells of a store.
 use Rattle.std.proofs.Common.{eq-eqb, ◌≡◌, inl, inr, ℕ, ◌+◌, ◌-◌, ◌*◌, ◌%◌, ◌≤◌, ◌<◌, ◌==◌, min, ◌||◌, not, Bool, true, false, nat_le, nat_lt, List, length, take, drop, Option, None, Some, IfSome, refl, ap, sym, subst, ◌∙◌, arith}
-use Rattle.std.proofs.Math.Nat.{mul-le-mul_left, mul_comm, mod-lt}
+use Rattle.std.proofs.Math.Nat.{div-add-mod, mul-le-mul_left, mul_comm, mod-lt}
 use Rattle.std.proofs.lemmas.Nat.{pow_pos}
 use Rattle.cola_cell.specs.declared.format.Format.{Format}
 use Rattle.cola_cell.specs.declared.sink.Shadow.{Shadow}
@@ -20,7 +20,7 @@ use Rattle.cola_run.specs.Weaving.{IsBelow, IsInFront, IsFound, IsRunHere, ahead
 use Rattle.std.proofs.lemmas.Bool.{lt-leb, eqb-true, true≢false, cases_lt, le-ltb}
 use Rattle.cola_run.proofs.Reading.{tells-by, tells-same}
 use Rattle.cola_run.proofs.Bytes.{cell-part, block-from}
-use Rattle.cola_run.proofs.Numbers.{split, place-is}
+use Rattle.cola_run.proofs.Numbers.{place-is}
 use Rattle.cola_run.proofs.Spots.{device-is, spot-there, spot-device, spot-front, tail-is, if-told}
 use Rattle.cola_cell.specs.declared.windows.Reach.{Reach}
 use Rattle.cola_cell.specs.Windows.{cell_bytes_at, IsRunIn, IsShown}
@@ -54,10 +54,9 @@ block_found told g reach copy found count low many whole given is =
     let b = block_cells g in
     let at = reach.from % b in
     let inside : at + count ≤ b = omega (arith, many, mod-lt reach.from (pow_pos g.block_exp)) in
-    let number = split b (number_of reach.run.level reach.run.slot reach.from) (pow_pos g.block_exp) in
     let place : number_of reach.run.level reach.run.slot reach.from % b ≡ at = place-is g.block_exp reach.run.level reach.run.slot reach.from low in
     let sum : b * block_number g reach.run.level reach.run.slot reach.from + at ≡ number_of reach.run.level reach.run.slot reach.from =
-    ap (λ (n : ℕ). b * block_number g reach.run.level reach.run.slot reach.from + n) (sym place) ∙ number.is in
+    ap (λ (n : ℕ). b * block_number g reach.run.level reach.run.slot reach.from + n) (sym place) ∙ div-add-mod (number_of reach.run.level reach.run.slot reach.from) b in
     let size : length found ≡ count * width g.format = block_size g.format copy found b at count whole inside is in
     record {
       size = size ∙ ap (λ (n : ℕ). n * width g.format) many;

@@ -1,6 +1,7 @@
 -- What restarts, pushes and finishes of a store keep and spend.
-use Rattle.std.proofs.Common.{◌≡◌, ◌≢◌, inl, ℕ, ◌+◌, ◌-◌, ◌*◌, ◌^◌, ◌≤◌, Bool, true, false, if◌then◌else◌, List, length, map, take, drop, Option, None, Some, IfSome, option_map, Result, Ok, Err, refl, sym, ap, subst, ◌∙◌, arith}
+use Rattle.std.proofs.Common.{◌≡◌, ◌≢◌, inl, ℕ, ◌+◌, ◌-◌, ◌*◌, ◌^◌, ◌≤◌, Bool, true, false, if◌then◌else◌, List, length, map, take, drop, Option, Some, IfSome, option_map, Result, Ok, Err, refl, sym, ap, subst, ◌∙◌, arith}
 use Rattle.std.proofs.lemmas.List.{length-map}
+use Rattle.std.proofs.lemmas.Option.{IfSome_then}
 use Rattle.std.proofs.Math.Nat.{mul-le-mul_right}
 use Rattle.cola_outside.specs.Faults.{Rose}
 use Rattle.cola_outside.specs.Told.{Both}
@@ -19,7 +20,7 @@ use Rattle.cola_front.specs.Front.{FrontCells}
 use Rattle.cola_layout.specs.declared.geometry.Geometry.{Geometry}
 use Rattle.cola_layout.specs.Geometry.{IsBlock}
 use Rattle.cola_cache.specs.Blocks.{Blocks, Made, forgotten}
-use Rattle.cola_run.specs.Cells.{block_bytes, file_bytes, file_blocks, device_levels, block_number, IsShape, IsBacked}
+use Rattle.cola_run.specs.Cells.{block_bytes, file_bytes, file_blocks, device_levels, block_number, spots_of, IsShape, IsBacked, cells_by}
 use Rattle.cola_run.specs.Store.{Store, IsStore, cells_of, held_of, spent_of, kept_of, Beside, beside, last_of}
 use Rattle.cola_run.specs.Parts.{WroteTail, tail_of, MetFault}
 use Rattle.cola_run.specs.Turns.{Writing}
@@ -28,7 +29,7 @@ use Rattle.cola_run.proofs.Numbers.{block-behind}
 use Rattle.cola_run.proofs.Steps.{written-many, block-fits}
 use Rattle.cola_run.proofs.Lasts.{lasts-forget}
 use Rattle.cola_run.proofs.Reading.{span-is}
-use Rattle.cola_run.proofs.Spots.{both-all, if-so, telling-is}
+use Rattle.cola_run.proofs.Spots.{both-all, telling-is}
 
 -- nothing beside the levels on the device changes where a block of one was written
 pub beside-written : (g : Geometry) (level slot index : ℕ) (bytes left : List ℕ) → IsBlock g.block_exp g.bottom → g.block_exp ≤ level + 2 → IsPlace (g.bottom + 1) level slot index → file_bytes g ≤ length bytes → length left ≡ block_bytes g →
@@ -50,7 +51,7 @@ beside-tail result g tails level slot index x y fits high place whole long w =
     (λ b c v long. ap (λ (xs : List ℕ). Some (beside g xs)) v.others_stay ∙ ap (λ (x : Beside). Some x) (beside-written g level slot index b v.left fits high place long (v.as_many ∙ whole))) x y w long
 
 pub long-of : (g : Geometry) (shadows : List Shadow) (tails : List ℕ) (x : Option (List ℕ)) → IfSome x (IsBacked g shadows tails) → IfSome x (λ b. file_bytes g ≤ length b)
-long-of g shadows tails x h = if-so x (IsBacked g shadows tails) (λ b. file_bytes g ≤ length b) (λ b h. h.long) h
+long-of g shadows tails x h = IfSome_then x h (λ b h. h.long)
 
 -- what a store keeps, by its parts
 pub kept-by : {D K : Type 0} (bytes : D → Option (List ℕ)) (counts : D → Counts) (kept : D → K) (old new : Store D) → new.geometry ≡ old.geometry → new.buffers.cache.blocks ≡ old.buffers.cache.blocks → kept new.buffers.cache.device ≡ kept old.buffers.cache.device
@@ -148,6 +149,12 @@ pub sound-by : {D : Type 0} (bytes : D → Option (List ℕ)) (store now : Store
     → IsShape store.geometry store.front now.shadows now.tails → IfSome (bytes now.buffers.cache.device) (IsBacked store.geometry now.shadows now.tails)
     → now.buffers.cache.size ≡ store.buffers.cache.size → now.buffers.many ≡ store.buffers.many → length now.buffers.lasts ≡ length store.buffers.lasts → IsStore (bytes now.buffers.cache.device) now
 sound-by bytes store now sound same front shape = sound-with bytes store now sound same (subst (λ (f : FrontCells). IsShape store.geometry f now.shadows now.tails) (sym front) shape)
+
+-- the cells of a store are those by the geometry and the front of one that has the same
+pub spots-by : {D : Type 0} (told : Option (List ℕ)) (store now : Store D) → now.geometry ≡ store.geometry → now.front ≡ store.front → (l s i : ℕ)
+    → spots_of (cells_of told now) l s i ≡ spots_of (cells_by store.geometry store.front (cells_of told now).lower) l s i
+spots-by told store now same front l s i =
+    ap (λ (x : Geometry). spots_of (cells_by x now.front (cells_of told now).lower) l s i) same ∙ ap (λ (x : FrontCells). spots_of (cells_by store.geometry x (cells_of told now).lower) l s i) front
 
 -- what a call on one shadow leaves around it
 pub around-by : {D : Type 0} (bytes : D → Option (List ℕ)) (store now : Store D) (level : ℕ) → now.geometry ≡ store.geometry → now.buffers.made ≡ store.buffers.made

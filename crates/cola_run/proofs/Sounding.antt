@@ -1,7 +1,7 @@
 -- A store stays sound behind a merge over lent bytes.
 use Rattle.std.proofs.Common.{◌≡◌, ◌≢◌, ◌⊎◌, inl, inr, ℕ, zero, suc, ◌+◌, ◌-◌, ◌*◌, ◌/◌, ◌%◌, ◌≤◌, ◌<◌, ◌==◌, Bool, true, false, if◌then◌else◌, List, length, take, drop, Option, None, Some, refl, ap, sym, subst, ◌∙◌, arith}
 use Rattle.std.proofs.Math.Nat.{mul-add, mod-lt, mul-le-mul_left, div-add-mod, mul_comm}
-use Rattle.std.proofs.lemmas.Nat.{pow_pos, mod-mul-add, div-mul-add}
+use Rattle.std.proofs.lemmas.Nat.{pow_pos}
 use Rattle.std.proofs.lemmas.Bool.{true≢false}
 use Rattle.std.proofs.lemmas.Bool.Decides.{eqb_tells, leb_tells}
 use Rattle.cola_cell.specs.declared.sink.Shadow.{Shadow}
@@ -16,7 +16,7 @@ use Rattle.cola_run.specs.Cells.{Lower, cells_by, spots_of, device_cell, IsOnDev
 use Rattle.cola_run.specs.Parts.{OneShadow}
 use Rattle.cola_run.specs.Weaving.{room_cells}
 use Rattle.cola_run.proofs.Bytes.{cell-below, cell-above, cell-inside}
-use Rattle.cola_run.proofs.Numbers.{block-before}
+use Rattle.cola_run.proofs.Numbers.{block-before, next-more}
 use Rattle.cola_run.proofs.Spots.{in-tail, IsInTail, spot-there, spot-device, device-in, device-out, device-is, spots-stay, both-same}
 use Rattle.cola_run.proofs.Steps.{tail_room}
 use Rattle.cola_run.proofs.Lowers.{around-same, other-cell, backed-by, shape-by}
@@ -27,18 +27,8 @@ use Rattle.cola_cell.specs.Spelling.{IsSpelling}
 use Rattle.cola_cell.proofs.DecodedLemmas.{spot_told, spot_is_told}
 use Rattle.cola_cell.proofs.RunLemmas.{put_is_told}
 
-in_block : (n c k : ℕ) → 0 < k → n % k + c < k → (n + c) % k ≡ n % k + c
-in_block n c k p h =
-    ap (λ (x : ℕ). x % k) (let e : k * (n / k) + n % k ≡ n = div-add-mod n k in let f : n / k * k ≡ k * (n / k) = mul_comm (n / k) k in let z : n + c ≡ n / k * k + (n % k + c) = omega (arith, e, f) in z)
-    ∙ mod-mul-add (n / k) k (n % k + c) h
-
 not_zero : (c : ℕ) → (suc c == 0) ≡ false
 not_zero c = elim (eqb_tells (suc c) 0) [ inl e ↦ let f : suc c ≡ 0 = e.1 in absurd (omega (arith, f)) | inr e ↦ e.0 ]
-
-one_block : (n c k : ℕ) → 0 < k → n % k + c < k → (n + c) / k ≡ n / k
-one_block n c k p h =
-    ap (λ (x : ℕ). x / k) (let e : k * (n / k) + n % k ≡ n = div-add-mod n k in let f : n / k * k ≡ k * (n / k) = mul_comm (n / k) k in let z : n + c ≡ n / k * k + (n % k + c) = omega (arith, e, f) in z)
-    ∙ div-mul-add (n / k) k (n % k + c) h
 
 module _ (g : Geometry) (front : FrontCells) (shadows now : List Shadow) (tails after : List ℕ) (level count : ℕ) (room : List ℕ) (device : IsOnDevice g level) (shape : IsShape g front shadows tails)
     (one : OneShadow shadows now level (grown count (shadow_at shadows level))) (few : count ≤ room_cells g level (shadow_at shadows level).len)
@@ -73,7 +63,7 @@ module _ (g : Geometry) (front : FrontCells) (shadows now : List Shadow) (tails 
 
   unsaved_by : (c : ℕ) → c ≤ room_cells g level len → (grown c (shadow_at shadows level)).saved ≡ false → (len + c) % b ≢ 0
   unsaved_by zero h e = λ z. shape.unsaved level device e (ap (λ (x : ℕ). x % b) (let y : len ≡ len + 0 = omega arith in y) ∙ z)
-  unsaved_by (suc c) h e = λ z. let r = ends in let y : (len + suc c) % b ≡ len % b + suc c = in_block len (suc c) b some (omega (arith, r, h)) in absurd (let x : (len + suc c) % b ≡ 0 = z in omega (arith, x, y))
+  unsaved_by (suc c) h e = λ z. let r = ends in let y : (len + suc c) % b ≡ len % b + suc c = (next-more b len (suc c) (omega (arith, r, h))).1 in absurd (let x : (len + suc c) % b ≡ 0 = z in omega (arith, x, y))
 
   pub woven_shape : IsShape g front now after
   woven_shape =
@@ -132,12 +122,12 @@ module _ (g : Geometry) (front : FrontCells) (shadows now : List Shadow) (tails 
   now_len = ap (λ (x : Shadow). x.len) one.is
 
   now_block : (shadow_at now level).len / b ≡ len / b
-  now_block = ap (λ (x : ℕ). x / b) now_len ∙ (let r = ends in one_block len count b some (omega (arith, r, few)))
+  now_block = ap (λ (x : ℕ). x / b) now_len ∙ (let r = ends in (next-more b len count (omega (arith, r, few))).0)
 
   new_place : (k : ℕ) → k < count → IsInTail b (shadow_at now level) slot (len + k)
   new_place k h = record {
     slot_is = sym now_slot;
-    block_is = (let r = ends in one_block len k b some (omega (arith, r, few, h))) ∙ sym now_block;
+    block_is = (let r = ends in (next-more b len k (omega (arith, r, few, h))).0) ∙ sym now_block;
     within = let e = now_len in omega (arith, e, h);
   }
 
@@ -145,7 +135,7 @@ module _ (g : Geometry) (front : FrontCells) (shadows now : List Shadow) (tails 
   new_bytes k h =
       ap (λ (xs : List ℕ). cell_bytes g.format xs (tail_number g level (len + k))) put
       ∙ ap (λ (n : ℕ). cell_bytes g.format (splice tails (width g.format * tail_number g level len) room) n)
-      (let r = ends in let z : (len + k) % b ≡ len % b + k = in_block len k b some (omega (arith, r, few, h)) in let y : tail_number g level (len + k) ≡ tail_number g level len + k = omega (arith, z) in y)
+      (let r = ends in let z : (len + k) % b ≡ len % b + k = (next-more b len k (omega (arith, r, few, h))).1 in let y : tail_number g level (len + k) ≡ tail_number g level len + k = omega (arith, z) in y)
       ∙ cell-inside g.format tails room (tail_number g level len) (room_cells g level len) k (let r = room_fits in omega (arith, r)) size (omega (arith, h, few))
       ∙ ap (λ (at : ℕ). take (width g.format) (drop at room)) (mul_comm (width g.format) k)
 

@@ -1,7 +1,6 @@
 -- What is told of a place: of one in the front, one in a tail, and one on the device.
-use Rattle.std.proofs.Common.{eq-eqb, ◌≡◌, inl, inr, ℕ, ◌+◌, ◌/◌, ◌<◌, ◌≤◌, ◌==◌, nat_lt, ◌&&◌, Bool, true, false, if◌then◌else◌, List, Option, None, Some, IfSome, is_some, refl, sym, ap, ◌∙◌, Result, Ok, Err}
-use Rattle.std.proofs.lemmas.Bool.{and_parts, eqb-true, false≢true, false_from_ne_true, ltb-true, lt-ltb, le-ltb, cases_lt}
-use Rattle.std.specs.Prelude.{OnOk}
+use Rattle.std.proofs.Common.{◌∙◌, arith, ◌%◌, eq-eqb, ◌≡◌, inl, inr, ℕ, ◌+◌, ◌/◌, ◌<◌, ◌≤◌, ◌==◌, nat_lt, ◌&&◌, Bool, true, false, if◌then◌else◌, List, Option, None, Some, IfSome, is_some, refl, sym, ap}
+use Rattle.std.proofs.lemmas.Bool.{and_parts, cond-false, cond-true, eqb-true, false≢true, false_from_ne_true, ltb-true, lt-ltb, le-ltb, cases_lt}
 use Rattle.cola_outside.specs.Told.{Both}
 use Rattle.cola_cell.specs.declared.cell.Cell.{Cell}
 use Rattle.cola_cell.specs.declared.sink.Shadow.{Shadow}
@@ -12,30 +11,20 @@ use Rattle.cola_cell.specs.Places.{slot_size, number_of, IsPlace}
 use Rattle.cola_cell.proofs.DecodedLemmas.{spot_is_told}
 use Rattle.cola_front.specs.Front.{FrontCells, cell_at, cell_bytes}
 use Rattle.cola_layout.specs.declared.geometry.Geometry.{Geometry}
+use Rattle.cola_run.proofs.Numbers.{first-place}
 use Rattle.cola_run.specs.Cells.{block_cells, tail_number, is_in_tail, device_cell, Lower, Cells, standing_spot, known_spot, told_spot, spots_of, cells_by}
 
 -- a choice by a test that is true, and by one that is false
 pub choose-then : {A : Type 0} (t : Bool) (x y : A) → t ≡ true → (if t then x else y) ≡ x
-choose-then true x y e = refl
-choose-then false x y e = absurd (false≢true e)
+choose-then t x y e = cond-true t x y e
 
 pub choose-else : {A : Type 0} (t : Bool) (x y : A) → t ≡ false → (if t then x else y) ≡ y
-choose-else true x y e = absurd (false≢true (sym e))
-choose-else false x y e = refl
+choose-else t x y e = cond-false t x y e
 
--- what is so of every content is so of one that is told; and what follows
+-- what is so of every content is so of one that is told
 pub if-told : {A : Type 0} {P : A → Type 0} (x : Option A) → ((a : A) → P a) → IfSome x P
 if-told None f = tt
 if-told (Some a) f = f a
-
-pub if-so : {A : Type 0} (x : Option A) (P Q : A → Type 0) → ((a : A) → P a → Q a) → IfSome x P → IfSome x Q
-if-so None P Q f h = tt
-if-so (Some a) P Q f h = f a h
-
--- a fact is one on Ok
-pub on-ok : {T E P : Type 0} (result : Result T E) → P → OnOk result P
-on-ok (Ok x) p = p
-on-ok (Err e) p = tt
 
 -- what is so of two contents that are not told, and of two that are and stand in a relation, is so where both are told or neither
 pub both-all : {A B : Type 0} (P : A → B → Type 0) (Q : Option A → Option B → Type 0) → Q None None → ((x : A) (y : B) → P x y → Q (Some x) (Some y)) → (a : Option A) (b : Option B) → Both a b P → Q a b
@@ -81,16 +70,20 @@ tail-is span shadow slot index p = rw (eq-eqb slot shadow.slot p.slot_is, eq-eqb
 pub tail-not : (span : ℕ) (shadow : Shadow) (slot index : ℕ) → (IsInTail span shadow slot index → ⊥) → is_in_tail span shadow slot index ≡ false
 tail-not span shadow slot index d = false_from_ne_true (is_in_tail span shadow slot index) (λ e. d (in-tail span shadow slot index e))
 
+-- a shadow that ends with a block has none
+pub no-tail : (span : ℕ) (shadow : Shadow) (slot index : ℕ) → 0 < span → shadow.len % span ≡ 0 → IsInTail span shadow slot index → ⊥
+no-tail span shadow slot index some ends p = omega (arith, p.within, first-place span index shadow.len some p.block_is ends)
+
 -- the bytes of a cell of a level on the device
 module _ (g : Geometry) (shadows : List Shadow) (tails bytes : List ℕ) (l s i : ℕ) where
   pub device-in : IsInTail (block_cells g) (shadow_at shadows l) s i → device_cell g shadows tails bytes l s i ≡ cell_bytes g.format tails (tail_number g l i)
   device-in p =
-      choose-then (is_in_tail (block_cells g) (shadow_at shadows l) s i) (cell_bytes g.format tails (tail_number g l i)) (cell_bytes g.format bytes (number_of l s i))
+      cond-true (is_in_tail (block_cells g) (shadow_at shadows l) s i) (cell_bytes g.format tails (tail_number g l i)) (cell_bytes g.format bytes (number_of l s i))
       (tail-is (block_cells g) (shadow_at shadows l) s i p)
 
   pub device-out : (IsInTail (block_cells g) (shadow_at shadows l) s i → ⊥) → device_cell g shadows tails bytes l s i ≡ cell_bytes g.format bytes (number_of l s i)
   device-out d =
-      choose-else (is_in_tail (block_cells g) (shadow_at shadows l) s i) (cell_bytes g.format tails (tail_number g l i)) (cell_bytes g.format bytes (number_of l s i))
+      cond-false (is_in_tail (block_cells g) (shadow_at shadows l) s i) (cell_bytes g.format tails (tail_number g l i)) (cell_bytes g.format bytes (number_of l s i))
       (tail-not (block_cells g) (shadow_at shadows l) s i d)
 
   -- they are these where both ways give these
@@ -115,17 +108,17 @@ place-so levels l s i p = rw (lt-ltb l levels p.level_in, lt-ltb s 2 p.slot_in, 
 
 -- what is told of a place, where its device has these bytes
 pub spot-there : (cells : Cells) (bytes : List ℕ) (l s i : ℕ) → IsPlace (cells.geometry.bottom + 1) l s i → known_spot cells bytes l s i ≡ standing_spot cells bytes l s i
-spot-there cells bytes l s i p = choose-then (is_place (cells.geometry.bottom + 1) l s i) (standing_spot cells bytes l s i) Bad (place-so (cells.geometry.bottom + 1) l s i p)
+spot-there cells bytes l s i p = cond-true (is_place (cells.geometry.bottom + 1) l s i) (standing_spot cells bytes l s i) Bad (place-so (cells.geometry.bottom + 1) l s i p)
 
 pub spot-front : (cells : Cells) (bytes : List ℕ) (l s i : ℕ) → l + 2 < cells.geometry.block_exp → standing_spot cells bytes l s i ≡ spot_of (cell_at cells.front (number_of l s i))
 spot-front cells bytes l s i low =
-    choose-then (nat_lt (l + 2) cells.geometry.block_exp) (spot_of (cell_at cells.front (number_of l s i)))
+    cond-true (nat_lt (l + 2) cells.geometry.block_exp) (spot_of (cell_at cells.front (number_of l s i)))
     (spot_of_bytes cells.geometry.format (device_cell cells.geometry cells.lower.shadows cells.lower.tails bytes l s i)) (lt-ltb (l + 2) cells.geometry.block_exp low)
 
 pub spot-device : (cells : Cells) (bytes : List ℕ) (l s i : ℕ) → cells.geometry.block_exp ≤ l + 2 →
     standing_spot cells bytes l s i ≡ spot_of_bytes cells.geometry.format (device_cell cells.geometry cells.lower.shadows cells.lower.tails bytes l s i)
 spot-device cells bytes l s i high =
-    choose-else (nat_lt (l + 2) cells.geometry.block_exp) (spot_of (cell_at cells.front (number_of l s i)))
+    cond-false (nat_lt (l + 2) cells.geometry.block_exp) (spot_of (cell_at cells.front (number_of l s i)))
     (spot_of_bytes cells.geometry.format (device_cell cells.geometry cells.lower.shadows cells.lower.tails bytes l s i)) (le-ltb (l + 2) cells.geometry.block_exp high)
 
 -- what is told of a place stays where its cell in the front, or its bytes below that, do
@@ -150,7 +143,7 @@ module _ (g : Geometry) (front now : FrontCells) (old new : Lower) (l s i : ℕ)
       by-test : (t : Bool) → is_place (g.bottom + 1) l s i ≡ t → known_spot now-cells c l s i ≡ known_spot before-cells b l s i
       by-test true e = let p = place-of (g.bottom + 1) l s i e in spot-there now-cells c l s i p ∙ standing p ∙ sym (spot-there before-cells b l s i p)
       by-test false e =
-          choose-else (is_place (g.bottom + 1) l s i) (standing_spot now-cells c l s i) Bad e ∙ sym (choose-else (is_place (g.bottom + 1) l s i) (standing_spot before-cells b l s i) Bad e)
+          cond-false (is_place (g.bottom + 1) l s i) (standing_spot now-cells c l s i) Bad e ∙ sym (cond-false (is_place (g.bottom + 1) l s i) (standing_spot before-cells b l s i) Bad e)
 
   pub spots-stay : Both old.told new.told (λ b c. IsPlace (g.bottom + 1) l s i → g.block_exp ≤ l + 2 → device_cell g new.shadows new.tails c l s i ≡ device_cell g old.shadows old.tails b l s i) →
       spots_of (cells_by g now new) l s i ≡ spots_of (cells_by g front old) l s i

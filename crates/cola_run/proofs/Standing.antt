@@ -2,6 +2,7 @@
 use Rattle.std.proofs.Common.{◌≡◌, ◌≢◌, ◌⊎◌, inl, inr, ℕ, ◌+◌, ◌%◌, ◌<◌, ◌≤◌, true, false, List, length, Option, None, Some, IfSome, refl, sym, ap, subst, ◌∙◌, arith, set, length-set}
 use Rattle.std.proofs.lemmas.Bool.{cases_eq, false≢true}
 use Rattle.std.proofs.lemmas.List.{get_or-set_same, get_or-set_other}
+use Rattle.std.proofs.lemmas.Option.{IfSome_then}
 use Rattle.cola_outside.specs.Told.{Both}
 use Rattle.cola_cell.specs.declared.cell.Cell.{Cell}
 use Rattle.cola_cell.specs.declared.sink.Shadow.{Shadow}
@@ -14,7 +15,7 @@ use Rattle.cola_layout.specs.declared.geometry.Geometry.{Geometry}
 use Rattle.cola_layout.proofs.Places.{place-differ}
 use Rattle.cola_run.specs.Cells.{IsOnDevice, Lower, Cells, block_cells, tail_number, device_cell, known_spot, told_spot, spots_of, IsShadow, IsShape, IsSaved, IsBacked, cells_by}
 use Rattle.cola_run.specs.Parts.{OneShadow}
-use Rattle.cola_run.proofs.Spots.{IsInTail, in-tail, tail-is, device-out, device-is, spot-there, spot-front, spots-stay, known-told, with-told, if-told, if-so}
+use Rattle.cola_run.proofs.Spots.{IsInTail, in-tail, tail-is, device-out, device-is, spot-there, spot-front, spots-stay, known-told, with-told, if-told}
 use Rattle.cola_run.proofs.Lowers.{around-same, other-cell, backed-by, shape-by, TailsStay}
 
 -- one shadow changed, by setting it
@@ -63,8 +64,7 @@ module _ (g : Geometry) (front now : FrontCells) (old new : Lower) (level : ℕ)
 module _ (g : Geometry) (front : FrontCells) (old new : Lower) (level slot : ℕ) (shape : IsShape g front old.shadows old.tails)
     (told : new.told ≡ old.told) (tails : new.tails ≡ old.tails) (one : OneShadow old.shadows new.shadows level (emptied slot)) where
   none : (s i : ℕ) → IsInTail (block_cells g) (shadow_at new.shadows level) s i → ⊥
-  none s i q =
-      omega (arith, q.within, ap (λ (x : Shadow). x.len) one.is)
+  none s i q = omega (arith, q.within, ap (λ (x : Shadow). x.len) one.is)
 
   -- the cells that are not in its tail stay
   pub restart-others : (l s i : ℕ) → (l ≢ level) ⊎ (s ≢ (shadow_at old.shadows level).slot) ⊎ ((shadow_at old.shadows level).len ≤ i) →
@@ -81,8 +81,7 @@ module _ (g : Geometry) (front : FrontCells) (old new : Lower) (level slot : ℕ
       spots_of (cells_by g front new) l s i ≡ spots_of (cells_by g front old) l s i
   restart-kept backed saved l s i =
       shadow-stays g front front old new level (emptied slot) shape told tails one l s i (λ p low. refl)
-      (if-so old.told (IsBacked g old.shadows old.tails)
-      (λ b. l ≡ level → IsPlace (g.bottom + 1) level s i → g.block_exp ≤ level + 2 → device_cell g new.shadows new.tails b level s i ≡ device_cell g old.shadows old.tails b level s i)
+      (IfSome_then old.told backed
       (λ b h same p high.
       let low : level < g.bottom + 1 = p.level_in in
       let sh = shadow_at old.shadows level in
@@ -91,8 +90,7 @@ module _ (g : Geometry) (front : FrontCells) (old new : Lower) (level slot : ℕ
       device-out g new.shadows new.tails b level s i (none s i)
       ∙ ap (λ (x : ℕ). cell_bytes g.format b (number_of level x i)) q.slot_is
       ∙ h.saved level (record { within = omega (arith, low); whole = high }) (saved high) i (tail-is (block_cells g) sh sh.slot i (record { slot_is = refl; block_is = q.block_is; within = q.within })))
-      (λ d. device-out g new.shadows new.tails b level s i (none s i)))
-      backed)
+      (λ d. device-out g new.shadows new.tails b level s i (none s i))))
 
   pub restart-shape : slot < 2 → IsShape g front new.shadows new.tails
   restart-shape within = shadow-shape g front front old new level (emptied slot) shape told tails one (record { slot_in = within; within = omega arith }) (λ on e. absurd (false≢true (sym e)))

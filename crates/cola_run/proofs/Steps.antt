@@ -22,8 +22,7 @@ tail-within g level i fits device =
 
 -- the number of the first cell of a tail
 pub tail-first : (g : Geometry) (level : ℕ) → tail_number g level 0 ≡ block_cells g * (level + 2 - g.block_exp)
-tail-first g level =
-    omega (arith, zero-mod (block_cells g))
+tail-first g level = omega (arith, zero-mod (block_cells g))
 
 -- the tail of a level is one block
 pub tail_room : (g : Geometry) (level : ℕ) → IsOnDevice g level → width g.format * tail_number g level 0 + block_bytes g ≤ width g.format * (block_cells g * device_levels g)
@@ -56,12 +55,10 @@ tail-cell g tails level i =
 module _ (g : Geometry) (tails new : List ℕ) (level at : ℕ) (fits : IsBlock g.block_exp g.bottom) (device : IsOnDevice g level)
     (many : length tails ≡ width g.format * (block_cells g * device_levels g)) (long : length new ≡ width g.format) where
   room : width g.format * (tail_number g level at + 1) ≤ length tails
-  room =
-      omega (arith, room-of g.format (tail_number g level at + 1) (block_cells g * device_levels g) (tail-within g level at fits device), many)
+  room = omega (arith, room-of g.format (tail_number g level at + 1) (block_cells g * device_levels g) (tail-within g level at fits device), many)
 
   begins : width g.format * tail_number g level at ≤ length tails
-  begins =
-      omega (arith, room, room-sum g.format (tail_number g level at) 1)
+  begins = omega (arith, room, room-sum g.format (tail_number g level at) 1)
 
   -- are as many
   pub put-many : length (splice tails (width g.format * tail_number g level at) new) ≡ length tails
@@ -80,10 +77,8 @@ module _ (g : Geometry) (tails new : List ℕ) (level at : ℕ) (fits : IsBlock 
   put-stays l i on apart =
       elim (cases_order (tail_number g l i) (tail_number g level at)) [
         | inl same ↦ absurd (differ same)
-        | inr other ↦ elim other [
-          | inl below ↦ cell-below g.format tails new (tail_number g level at) (tail_number g l i) begins (omega (arith, below))
-          | inr above ↦ cell-above g.format tails new (tail_number g level at) 1 (tail_number g l i) begins (omega (arith, long)) (omega (arith, above))
-        ]
+        | inr (inl below) ↦ cell-below g.format tails new (tail_number g level at) (tail_number g l i) begins (omega (arith, below))
+        | inr (inr above) ↦ cell-above g.format tails new (tail_number g level at) 1 (tail_number g l i) begins (omega (arith, long)) (omega (arith, above))
       ]
     where
       differ : tail_number g l i ≡ tail_number g level at → ⊥

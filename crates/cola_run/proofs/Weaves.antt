@@ -9,21 +9,23 @@ use Rattle.cola_run.specs.Store.{Store, IsStore, held_of, state_of}
 use Rattle.cola_run.specs.Weaving.{AreAtHand, IsFound, WoveOver, is_at_hand}
 use Rattle.cola_run.proofs.Shown.{found_shown}
 
-module _ {D M J : Type 0} (bytes : D → Option (List ℕ)) (counts : D → Counts) (wove : M → M → J → Format → Views → List ℕ → Passed → Type 0) (lends : Bool) (store before now : Store D) (is : store ≡ before)
-    (level : ℕ) (own incoming sample : Reach) (merge merged : M) (job : J) (sound : IsStore (bytes store.buffers.cache.device) store) where
+module _ {D M J : Type 0} (bytes : D → Option (List ℕ)) (counts : D → Counts) (wove : M → M → J → Format → Views → List ℕ → Passed → Type 0) (lends : Bool)
+    (store before now : Store D) (is : store ≡ before) (level : ℕ) (own incoming sample : Reach) (merge merged : M) (job : J) (sound : IsStore (bytes store.buffers.cache.device) store) where
+  -- what was found shows a run
   shown : (reach : Reach) (window : List ℕ) (last : Bool) → IsFound lends (bytes store.buffers.cache.device) store.geometry store.front reach window last → IsReach (held_of bytes store) level reach →
       is_at_hand store.geometry store.shadows reach ≡ true → IsShown (held_of bytes store) reach window last
   shown reach window last found r hand =
       found_shown bytes store lends reach window last sound found (λ there. record { level_in = (r there).level_in; slot_in = (r there).slot_in; within = (r there).within; some = there }) hand
 
   -- what it found it shows, and of what is spent it changed the ticks alone
-  pub weaves : (views : Views) (room : List ℕ) (passed : Passed) (from to : ℕ) → WoveOver wove lends (bytes store.buffers.cache.device) store.geometry store.front own incoming sample merge merged job views room passed →
+  pub weaves : (views : Views) (room : List ℕ) (passed : Passed) (from to : ℕ) →
+      WoveOver wove lends (bytes store.buffers.cache.device) store.geometry store.front own incoming sample merge merged job views room passed →
       Grown (held_of bytes store) (held_of bytes now) level room passed.cells → OnlyTicks (state_of bytes counts store) (state_of bytes counts now) from to passed.ticks →
-      IsReach (held_of bytes before) level own → IsReach (held_of bytes before) level incoming → IsReach (held_of bytes before) level sample → AreAtHand before.geometry before.shadows own incoming sample →
-      Weaves wove (state_of bytes counts before) (state_of bytes counts now) level own incoming sample merge merged job from to passed.steps
+      IsReach (held_of bytes before) level own → IsReach (held_of bytes before) level incoming → IsReach (held_of bytes before) level sample →
+      AreAtHand before.geometry before.shadows own incoming sample → Weaves wove (state_of bytes counts before) (state_of bytes counts now) level own incoming sample merge merged job from to passed.steps
   weaves views room passed from to over grown ticks =
-      subst (λ (s : Store D). IsReach (held_of bytes s) level own → IsReach (held_of bytes s) level incoming → IsReach (held_of bytes s) level sample → AreAtHand s.geometry s.shadows own incoming sample →
-      Weaves wove (state_of bytes counts s) (state_of bytes counts now) level own incoming sample merge merged job from to passed.steps) is
+      subst (λ (s : Store D). IsReach (held_of bytes s) level own → IsReach (held_of bytes s) level incoming → IsReach (held_of bytes s) level sample →
+      AreAtHand s.geometry s.shadows own incoming sample → Weaves wove (state_of bytes counts s) (state_of bytes counts now) level own incoming sample merge merged job from to passed.steps) is
       (λ o i s hand. inr (record {
         views = views;
         room = room;

@@ -31,8 +31,9 @@ pub struct RunStore<D: Device> {
     pub(crate) shadows: BoxedSlice<Shadow>,
     pub(crate) tails: Tails,
     pub(crate) ticked: u64,
-    /// Where a merge into the front puts its cells before they are copied there. A contract does not see it.
-    pub(crate) room: [u8; FRONT_ROOM],
+    /// Where a merge into the front puts its cells before they are copied there. A contract does not see it. It is on the heap,
+    /// so that neither a store that is moved nor a merge that begins clears it.
+    pub(crate) room: Box<[u8; FRONT_ROOM]>,
 }
 
 impl<D: Device> Model for RunStore<D> {
@@ -72,11 +73,11 @@ fn exponent_of_bytes(geometry: &Geometry) -> u8
     }
 }
 
-/// The front, the shadows and the tails of a store: no cell stands in them yet.
+/// The front, the shadows and the tails of a store, in which no cell stands yet, and a room for merges into the front.
 fn parts(
     alloc: Global,
     geometry: &Geometry,
-) -> Result<(Front, BoxedSlice<Shadow>, Tails), AllocError>
+) -> Result<(Front, BoxedSlice<Shadow>, Tails, Box<[u8; FRONT_ROOM]>), AllocError>
     ensures front { IfOk result (λ made.
         made.0 ≡ new_front geometry.now.block_exp geometry.now.format) }
     ensures shadows { IfOk result (λ made.
@@ -91,7 +92,8 @@ fn parts(
     };
     let shadows = vec![in alloc; empty; geometry.levels() as usize]?.into_boxed_slice();
     let tails = Tails::new(alloc, geometry)?;
-    Ok((front, shadows, tails))
+    let room = Box::new(alloc, [0; FRONT_ROOM])?;
+    Ok((front, shadows, tails, room))
 }
 
 impl<D: Device> RunStore<D> {
@@ -110,7 +112,7 @@ impl<D: Device> RunStore<D> {
             store ≡ new_store device (D.counts device) geometry cache) }
         ensures back { IfErr result (λ error. error.0 ≡ device) }
     {
-        let (front, shadows, tails) = match parts(alloc, &geometry) {
+        let (front, shadows, tails, room) = match parts(alloc, &geometry) {
             Ok(parts) => parts,
             Err(error) => return Err((device, error)),
         };
@@ -125,7 +127,7 @@ impl<D: Device> RunStore<D> {
                 shadows,
                 tails,
                 ticked: 0,
-                room: [0; FRONT_ROOM],
+                room,
             }),
             Err(error) => Err(error),
         }

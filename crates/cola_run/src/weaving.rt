@@ -567,7 +567,7 @@ impl<D: Device> RunStore<D> {
             &self.buffers,
             &self.geometry,
             &mut self.shadows,
-            &mut self.room,
+            self.room.as_mut(),
             level,
             own,
             incoming,

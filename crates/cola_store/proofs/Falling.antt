@@ -28,7 +28,7 @@ use Rattle.cola_cursor.specs.Seeking.{RunsCause, aheads_of, range_ticks, left_so
 use Rattle.cola_cursor.specs.Standing as standing
 use Rattle.cola_cursor.specs.Standing.{runs_of}
 use Rattle.cola_cursor.specs.Turning.{AreSearchedTo, SeekBackGives, places_to, places_told_to, over_key}
-use Rattle.cola_cursor.proofs.Keys.{keys_alike}
+use Rattle.cola_look.proofs.KeyLemmas.{keys_alike}
 use Rattle.cola_chain.specs.Runs.{AreSearched}
 use Rattle.cola_store.specs.Store as opened
 use Rattle.cola_store.specs.Store.{Stored, Holds, held_of, spent_of, levels_of}

@@ -37,7 +37,8 @@ use Rattle.cola_cursor.specs.Giving.{SeekGives}
 use Rattle.cola_cursor.specs.Seeking.{LevelsRise, RunsCause, HasBadRun, places_from, places_of, places_told, range_ticks, left_sought}
 use Rattle.cola_cursor.specs.Standing as standing
 use Rattle.cola_cursor.specs.Standing.{runs_of, TakesNext, LinesPassed, AnyHasValue, IsPassed, none_hidden, answered_key, with_stamp}
-use Rattle.cola_cursor.proofs.Keys.{keys_alike, at_within}
+use Rattle.cola_look.proofs.KeyLemmas.{keys_alike}
+use Rattle.cola_cursor.proofs.Keys.{at_within}
 use Rattle.cola_cursor.specs.Way.{at}
 use Rattle.cola_chain.specs.Contents as chain
 use Rattle.cola_chain.specs.Contents.{Contents}

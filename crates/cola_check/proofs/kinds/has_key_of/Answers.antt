@@ -1,6 +1,7 @@
 use Rattle.std.proofs.Common.{◌≡◌, sym, ap, ◌∙◌, is_eq}
 use Rattle.cola_check.proofs.Common.{key_of, key_cmp}
-use Rattle.cola_check.proofs.LeastKeys.{key_same, same_key, itself_equal}
+use Rattle.cola_look.proofs.KeyLemmas.{key_same, same_key}
+use Rattle.cola_check.proofs.LeastKeys.{itself_equal}
 use Rattle.cola_check.proofs.kinds.has_key_of.Goals as goal
 
 pub returns : goal.returns

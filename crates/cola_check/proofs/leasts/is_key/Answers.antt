@@ -1,6 +1,7 @@
 use Rattle.std.proofs.Common.{◌≡◌, Some, sym, ap, ◌∙◌, is_eq}
 use Rattle.cola_check.proofs.Common.{key_cmp, same_Some}
-use Rattle.cola_check.proofs.LeastKeys.{same_key, itself_equal}
+use Rattle.cola_look.proofs.KeyLemmas.{same_key}
+use Rattle.cola_check.proofs.LeastKeys.{itself_equal}
 use Rattle.cola_check.proofs.leasts.is_key.Goals as goal
 
 pub returns-in-Some : goal.returns-in-Some

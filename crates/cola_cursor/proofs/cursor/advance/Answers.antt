@@ -5,7 +5,7 @@ use Rattle.cola_cursor.specs.declared.lines.Least.{Least}
 use Rattle.cola_cursor.specs.Standing.{none_hidden}
 use Rattle.cola_cursor.specs.Saving.{cursor_at, lines_left}
 use Rattle.cola_cursor.proofs.Readings.{reading_then}
-use Rattle.cola_cursor.proofs.Going.{quiet_begins, same_pass, value_there, key_below, key_there, quiet_none, quiet_tombstone, answer_going, takes_pair, takes_none, all_end, step_cause, went, stayed}
+use Rattle.cola_cursor.proofs.Going.{quiet_begins, same_pass, key_below, key_there, quiet_none, quiet_tombstone, answer_going, takes_pair, takes_none, all_end, step_cause, went, stayed}
 use Rattle.cola_cursor.proofs.Behind.{value_passes, value_later}
 use Rattle.cola_cursor.proofs.Stepping.{pass_less}
 use Rattle.cola_cursor.proofs.Least.{least_none}
@@ -110,7 +110,7 @@ returns-in-Value g c =
     let h = c.in_ok-item.ensures in
     let least = sym c.least_key.ensures.key ∙ ap (option_map (λ (least : Least). least.key)) c.in-Some.is in
     let p = same_pass c.args.falls key mids news item i.looks.cells_stay h.passes in
-    let there = value_there c.args.falls item c.in-Some-item.item c.in-Value.value c.in-Value.stamp c.in-Some-item.is c.in-Value.is in
+    let there = c.in-Some-item.is ∙ ap Some c.in-Value.is in
     let old = cursor_at c.args.lines.now end c.args.falls in
     let new = cursor_at news end c.args.falls in
     record {

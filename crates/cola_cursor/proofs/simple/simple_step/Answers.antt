@@ -6,7 +6,7 @@ use Rattle.cola_cursor.specs.Passing.{NoneHas}
 use Rattle.cola_cursor.specs.Saving.{cursor_at}
 use Rattle.cola_cursor.proofs.Behind.{value_passes}
 use Rattle.cola_cursor.proofs.First.{pass_one}
-use Rattle.cola_cursor.proofs.Going.{quiet_begins, value_there, key_below, answer_going, takes_pair, went, stayed}
+use Rattle.cola_cursor.proofs.Going.{quiet_begins, key_below, answer_going, takes_pair, went, stayed}
 use Rattle.cola_cursor.proofs.Lists.{fetch_none, left_at, bad_at}
 use Rattle.cola_cursor.proofs.simple.simple_step.Goals as goal
 
@@ -27,7 +27,7 @@ returns-in-Value g c =
     let least = sym c.in-Some.ensures.key in
     let quiet = quiet_begins c.args.falls held (cursor_at olds end c.args.falls) olds (fetch_none c.args.falls held olds c.requires.fit ready) in
     let p = pass_one c.args.falls held key olds i d c.pass.new.self item c.requires.fit ready l c.in-Some.ensures.first (subst (λ m. NoneHas key (drop m olds)) n (c.any_has.ensures c.if-any_has.false)) c.in-Ok.ensures.passes in
-    let there = value_there c.args.falls item c.in-Some-item.item c.in-Value.value c.in-Value.stamp c.in-Some-item.is c.in-Value.is in
+    let there = c.in-Some-item.is ∙ ap Some c.in-Value.is in
     let old = cursor_at olds end c.args.falls in
     let new = cursor_at news end c.args.falls in
     let left = left_at c.args.falls olds i d c.pass.new.self l in

@@ -1,4 +1,5 @@
 use Rattle.std.proofs.Common.{◌≡◌, false, List, ◌∷◌, [], ◌++◌, map, get_or, Result, Ok, Err, refl, sym, ap, subst, ◌∙◌, arith}
+use Rattle.std.proofs.lemmas.List.{take_more, map-append}
 use Rattle.std.specs.List.{AllByRecursion}
 use Rattle.arrayvec.specs.declared.array_vec.ArrayVec.{ArrayVec}
 use Rattle.cola_cell.specs.declared.cell.Run.{Run}
@@ -20,7 +21,7 @@ use Rattle.cola_cursor.specs.Standing.{runs_of}
 use Rattle.cola_cursor.specs.Seeking.{RunsCause, places_of, places_told}
 use Rattle.cola_cursor.proofs.Lists.{refused, length_push, all_at}
 use Rattle.cola_cursor.proofs.Readings.{reading_then}
-use Rattle.cola_cursor.proofs.Beginning.{reading_of, line_fits, all_append, map_append, places_next, places_whole, left_more, taken_more, bad_run}
+use Rattle.cola_cursor.proofs.Beginning.{reading_of, line_fits, all_append, places_next, places_whole, left_more, bad_run}
 use Rattle.cola_cursor.proofs.Searched.{told_next, told_refused, told_whole, two_at_most}
 use Rattle.cola_cursor.proofs.starts.seek_lines.Goals as goal
 
@@ -47,12 +48,12 @@ loop-i-preserved g c =
       left = left_more false runs n d c.loop-i.lines.items c.push.new.self.items line c.args.steps.now c.loop-i.steps c.stop_in.new.steps c.loop-i-test.true pushed refl ens.costs.steps_rise i.left;
       costs = costs_within (costs_then i.costs ens.costs) (omega arith) (let t = two_at_most c.loop-i.start in omega arith);
       told = told_next held key c.loop-i.start runs d n c.length_at-next_len.result _ (map (λ x. x.place) c.loop-i.lines.items) i.told seat (map (λ x. x.place) c.push.new.self.items) c.loop-i-test.true c.length_at-next_len.ensures exact
-          (ap (map (λ (x : Line). x.place)) pushed ∙ map_append false (λ (x : Line). x.place) c.loop-i.lines.items line);
+          (ap (map (λ (x : Line). x.place)) pushed ∙ map-append (λ (x : Line). x.place) c.loop-i.lines.items (line ∷ []));
       count = length_push false c.loop-i.lines.items c.push.new.self.items line n pushed i.count;
-      begins = ap runs_of pushed ∙ map_append false (λ (x : Line). x.run) c.loop-i.lines.items line ∙ ap (λ z. z ++ get_or runs n d ∷ []) i.begins ∙ sym (taken_more false runs n d c.loop-i-test.true);
+      begins = ap runs_of pushed ∙ map-append (λ (x : Line). x.run) c.loop-i.lines.items (line ∷ []) ∙ ap (λ z. z ++ get_or runs n d ∷ []) i.begins ∙ sym (take_more runs n d c.loop-i-test.true);
       fit = subst A (sym pushed) (all_append false (LineFits false held) c.loop-i.lines.items line i.fit (line_fits false held line (all_at false (HasRun held) runs n d c.loop-i-test.true c.requires.runs) ens.within refl));
       places = λ lists r. places_next false held runs lists n d key c.loop-i.start seat c.length_at-next_len.result (map (λ x. x.place) c.loop-i.lines.items) (map (λ x. x.place) c.push.new.self.items) _ r c.loop-i-test.true c.length_at-next_len.ensures told
-          (ap (map (λ (x : Line). x.place)) pushed ∙ map_append false (λ (x : Line). x.place) c.loop-i.lines.items line) (i.places lists r);
+          (ap (map (λ (x : Line). x.place)) pushed ∙ map-append (λ (x : Line). x.place) c.loop-i.lines.items (line ∷ [])) (i.places lists r);
     }
 
 pub returns-in_err-stop-clause-cause : goal.returns-in_err-stop-clause-cause

@@ -9,21 +9,18 @@ use Rattle.cola_run.proofs.device_cells.lengthen_on_device.Goals as goal
 
 pub fills_block-requires : goal.fills_block-requires
 fills_block-requires g c =
-    let low = c.args.geometry.now.shallow in
-    let device = c.requires.level.within in
-    subst (λ (x : Shadow). x.len < 16777216) (sym c.shadow_of-shadow.ensures) (slot-most c.args.level (shadow_at c.args.shadows.now c.args.level).len (omega (arith, low, device)) c.requires.place.index_in)
+    subst (λ (x : Shadow). x.len < 16777216) (sym c.shadow_of-shadow.ensures)
+    (slot-most c.args.level (shadow_at c.args.shadows.now c.args.level).len (omega (arith, c.args.geometry.now.shallow, c.requires.level)) c.requires.place.index_in)
 
 pub longer-requires : goal.longer-requires
 longer-requires g c =
-    let low = c.args.geometry.now.shallow in
-    let device = c.requires.level.within in
-    subst (λ (x : Shadow). x.len < 16777216) (sym c.shadow_of-shadow.ensures) (slot-most c.args.level (shadow_at c.args.shadows.now c.args.level).len (omega (arith, low, device)) c.requires.place.index_in)
+    subst (λ (x : Shadow). x.len < 16777216) (sym c.shadow_of-shadow.ensures)
+    (slot-most c.args.level (shadow_at c.args.shadows.now c.args.level).len (omega (arith, c.args.geometry.now.shallow, c.requires.level)) c.requires.place.index_in)
 
 pub longer-requires-in-Ok : goal.longer-requires-in-Ok
 longer-requires-in-Ok g c =
-    let low = c.args.geometry.now.shallow in
-    let device = c.requires.level.within in
-    subst (λ (x : Shadow). x.len < 16777216) (sym c.shadow_of-shadow.ensures) (slot-most c.args.level (shadow_at c.args.shadows.now c.args.level).len (omega (arith, low, device)) c.requires.place.index_in)
+    subst (λ (x : Shadow). x.len < 16777216) (sym c.shadow_of-shadow.ensures)
+    (slot-most c.args.level (shadow_at c.args.shadows.now c.args.level).len (omega (arith, c.args.geometry.now.shallow, c.requires.level)) c.requires.place.index_in)
 
 pub returns-then-not-fills_block-clause-lengthened : goal.returns-then-not-fills_block-clause-lengthened
 returns-then-not-fills_block-clause-lengthened g c =

@@ -1,4 +1,4 @@
-use Rattle.std.proofs.Common.{◌≡◌, ◌<◌, ◌^◌, ◌+◌, ap, ◌∙◌, arith}
+use Rattle.std.proofs.Common.{◌≡◌, ◌+◌, ap, ◌∙◌, arith}
 use Rattle.cola_cell.specs.declared.sink.Shadow.{Shadow}
 use Rattle.cola_cell.specs.Flat.{shadow_at}
 use Rattle.cola_cell.specs.Places.{number_of}
@@ -10,14 +10,23 @@ pub write_as-requires-clause-within : goal.write_as-requires-clause-within
 write_as-requires-clause-within c =
     let b = c.args.geometry.now.block_exp in
     let sh = shadow_at c.args.shadows.now c.args.level in
-    let twice : 2 ^ (b + 1) ≡ 2 ^ b + 2 ^ b = next_power b (b + 1) (omega arith) in
     let number : c.place.result ≡ number_of c.args.level sh.slot sh.len = c.place.ensures.value ∙ ap (λ (x : Shadow). number_of c.args.level x.slot x.len) c.shadow_of-shadow.ensures in
-    omega (arith, front-below b c.args.level sh.slot sh.len (omega (arith, c.requires.place.slot_in)) c.requires.place.index_in c.requires.level, twice, c.requires.block, number)
+    omega (
+      arith,
+      front-below b c.args.level sh.slot sh.len (omega (arith, c.requires.place.slot_in)) c.requires.place.index_in c.requires.level,
+      next_power b (b + 1) (omega arith),
+      c.requires.block,
+      number,
+    )
 
 pub returns-clause-within : goal.returns-clause-within
 returns-clause-within c =
     let b = c.args.geometry.now.block_exp in
     let sh = shadow_at c.args.shadows.now c.args.level in
-    let twice : 2 ^ (b + 1) ≡ 2 ^ b + 2 ^ b = next_power b (b + 1) (omega arith) in
-    let many = c.write_as.ensures.sound.many in
-    omega (arith, front-below b c.args.level sh.slot sh.len (omega (arith, c.requires.place.slot_in)) c.requires.place.index_in c.requires.level, twice, c.requires.block, many)
+    omega (
+      arith,
+      front-below b c.args.level sh.slot sh.len (omega (arith, c.requires.place.slot_in)) c.requires.place.index_in c.requires.level,
+      next_power b (b + 1) (omega arith),
+      c.requires.block,
+      c.write_as.ensures.sound.many,
+    )

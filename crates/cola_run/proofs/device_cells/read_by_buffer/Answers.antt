@@ -1,4 +1,4 @@
-use Rattle.std.proofs.Common.{◌≡◌, ◌+◌, ◌<◌, ◌≤◌, ◌/◌, ◌^◌, arith, ap, sym, subst, ◌∙◌, ℕ, List, length, Option, Some, None}
+use Rattle.std.proofs.Common.{◌≡◌, ◌+◌, ◌<◌, ◌/◌, arith, ap, sym, subst, ◌∙◌, ℕ, List, length, Option, Some, None}
 use Rattle.std.proofs.lemmas.List.{get_or-set_same, length-set}
 use Rattle.cola_layout.proofs.Powers.{power-le}
 use Rattle.std.specs.Prelude.{if◌then◌else◌, Result}

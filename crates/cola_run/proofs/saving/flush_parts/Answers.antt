@@ -1,4 +1,4 @@
-use Rattle.std.proofs.Common.{◌≡◌, ◌≤◌, ◌+◌, ◌-◌, ◌*◌, ◌^◌, ℕ, List, length, Option, Result, Ok, Err, refl, sym, subst, arith}
+use Rattle.std.proofs.Common.{◌≡◌, ◌≤◌, ◌+◌, ◌-◌, ◌*◌, ℕ, List, length, Option, Result, Ok, Err, refl, sym, subst, arith}
 use Rattle.std.specs.Prelude.{IfSome, OnOk}
 use Rattle.cola_outside.specs.Told.{Both}
 use Rattle.cola_device.specs.declared.device.DeviceFault.{DeviceFault}
@@ -10,14 +10,14 @@ use Rattle.cola_cache.specs.Blocks.{Blocks}
 use Rattle.cola_front.specs.Front.{FrontCells, IsFront, InOrder, image}
 use Rattle.cola_layout.specs.declared.geometry.Geometry.{Geometry}
 use Rattle.cola_layout.proofs.Powers.{power-le}
-use Rattle.cola_run.specs.Cells.{Lower, AreCells, cells_by, block_bytes, file_blocks, spots_of, IsShape, IsBacked}
+use Rattle.cola_run.specs.Cells.{Lower, AreCells, cells_by, block_bytes, spots_of, IsShape, IsBacked}
 use Rattle.cola_run.specs.Store.{lower_of}
 use Rattle.cola_run.specs.Saving.{IsFlushed, IsFirstLast, SameLevels, SameFront, IsFrontLast, SettlesTwice}
 use Rattle.cola_run.specs.Loading.{SameCells, StaySound, StayRead, AreSavedBelow}
 use Rattle.cola_run.proofs.Finishes.{ends-within}
 use Rattle.cola_run.proofs.Flushes.{image-fits, same-two, same-read, same-head, front-waits, levels-saved, flushed-by, settles-twice}
 use Rattle.cola_run.proofs.Firsts.{first-refused, first-written, front-unbegun, front-waited}
-use Rattle.cola_run.proofs.Spots.{on-ok}
+use Rattle.cola_run.proofs.Reading.{on-ok}
 use Rattle.cola_run.proofs.Heads.{heads-backed, heads-levels}
 use Rattle.cola_run.proofs.saving.flush_parts.Goals as goal
 

@@ -2,7 +2,6 @@ use Rattle.std.proofs.Common.{◌≡◌, ◌<◌, ◌≤◌, ◌+◌, ◌-◌, �
 use Rattle.std.specs.Prelude.{IfSome}
 use Rattle.std.proofs.lemmas.List.{get_or-set_same, length-set}
 use Rattle.cola_cell.specs.declared.format.Format.{Format}
-use Rattle.cola_cell.specs.declared.format.Format.TheVariants.{One, Two}
 use Rattle.cola_cell.specs.Format.{width}
 use Rattle.cola_cell.specs.Decoded.{decoded}
 use Rattle.cola_device.specs.Bytes.{Gives}
@@ -16,8 +15,7 @@ begin-of : (f : Format) (block : ℕ) → 1 * (width f * block) ≡ width f * bl
 begin-of f block = omega arith
 
 none-of : (f : Format) (n : ℕ) → 0 * n ≡ width f * 0
-none-of One n = omega arith
-none-of Two n = omega arith
+none-of f n = omega arith
 
 pub returns-in-Ok-turn_to-clause-loaded : goal.returns-in-Ok-turn_to-clause-loaded
 returns-in-Ok-turn_to-clause-loaded g c =

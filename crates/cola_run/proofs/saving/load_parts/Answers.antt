@@ -1,12 +1,8 @@
-use Rattle.std.proofs.Common.{◌≡◌, ◌≤◌, ◌+◌, ◌-◌, ◌^◌, sym, ap, ◌∙◌, arith}
+use Rattle.std.proofs.Common.{◌≡◌, ◌+◌, ◌-◌, ◌^◌, sym, ap, ◌∙◌, arith}
 use Rattle.cola_layout.specs.declared.geometry.Geometry.{Geometry}
 use Rattle.cola_layout.proofs.Powers.{power-le}
-use Rattle.cola_run.specs.Cells.{file_blocks}
-use Rattle.cola_run.specs.Saving.{AreFrontRunsSpelled, IsLowestBad}
-use Rattle.cola_layout.specs.Cells.{file_spots}
-use Rattle.cola_front.specs.Front.{IsLoaded as IsFrontLoaded}
 use Rattle.cola_run.proofs.Fronts.{runs-spelled, lowest-bad, runs-fit}
-use Rattle.cola_run.proofs.Spots.{if-so}
+use Rattle.std.proofs.lemmas.Option.{IfSome_then}
 use Rattle.cola_run.proofs.saving.load_parts.Goals as goal
 
 pub load_front-requires-clause-many : goal.load_front-requires-clause-many
@@ -20,8 +16,8 @@ returns-in-Some-clause-answer g c =
     let shape = c.load_front.ensures.shape in
     let format : c.load_front.new.front.format ≡ h.geometry.format = shape.format ∙ c.requires.shape.format ∙ ap (λ (x : Geometry). x.format) (sym c.requires.geometry) in
     let block : c.load_front.new.front.block ≡ 2 ^ h.geometry.block_exp = shape.block ∙ c.requires.shape.front_block ∙ ap (λ (x : Geometry). 2 ^ x.block_exp) (sym c.requires.geometry) in
-    if-so (g.D.Device.bytes c.args.buffers.now.cache.device) (λ bytes. IsFrontLoaded bytes c.load_front.new.front) (λ bytes. IsLowestBad h (file_spots h.geometry.format bytes) c.in-Some.number)
-    (λ bytes loaded. lowest-bad h c.load_front.new.front bytes loaded format block (runs-fit h) (omega (arith, fits)) c.in-Some.number c.in-Some.ensures.some) c.in-Ok.ensures.loaded
+    IfSome_then (g.D.Device.bytes c.args.buffers.now.cache.device) c.in-Ok.ensures.loaded
+    (λ bytes loaded. lowest-bad h c.load_front.new.front bytes loaded format block (runs-fit h) (omega (arith, fits)) c.in-Some.number c.in-Some.ensures.some)
 
 pub returns-in-None-clause-answer : goal.returns-in-None-clause-answer
 returns-in-None-clause-answer g c =
@@ -30,5 +26,5 @@ returns-in-None-clause-answer g c =
     let shape = c.load_front.ensures.shape in
     let format : c.load_front.new.front.format ≡ h.geometry.format = shape.format ∙ c.requires.shape.format ∙ ap (λ (x : Geometry). x.format) (sym c.requires.geometry) in
     let block : c.load_front.new.front.block ≡ 2 ^ h.geometry.block_exp = shape.block ∙ c.requires.shape.front_block ∙ ap (λ (x : Geometry). 2 ^ x.block_exp) (sym c.requires.geometry) in
-    if-so (g.D.Device.bytes c.args.buffers.now.cache.device) (λ bytes. IsFrontLoaded bytes c.load_front.new.front) (λ bytes. AreFrontRunsSpelled h (file_spots h.geometry.format bytes))
-    (λ bytes loaded. runs-spelled h c.load_front.new.front bytes loaded format block (runs-fit h) (omega (arith, fits)) (c.first_bad.ensures.none c.in-None.is)) c.in-Ok.ensures.loaded
+    IfSome_then (g.D.Device.bytes c.args.buffers.now.cache.device) c.in-Ok.ensures.loaded
+    (λ bytes loaded. runs-spelled h c.load_front.new.front bytes loaded format block (runs-fit h) (omega (arith, fits)) (c.first_bad.ensures.none c.in-None.is))

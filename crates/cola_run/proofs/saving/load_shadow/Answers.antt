@@ -1,4 +1,4 @@
-use Rattle.std.proofs.Common.{◌≡◌, ◌≤◌, ◌+◌, ◌*◌, ◌%◌, ℕ, List, length, Option, Some, None, inl, inr, refl, sym, ap, subst, ◌∙◌, arith}
+use Rattle.std.proofs.Common.{◌≡◌, ◌≤◌, ◌+◌, ◌*◌, ◌%◌, ℕ, List, Option, Some, None, inl, inr, refl, sym, ap, subst, ◌∙◌, arith}
 use Rattle.std.proofs.lemmas.Bool.{cases_eq}
 use Rattle.std.proofs.lemmas.List.{get_or-set_same}
 use Rattle.cola_cell.specs.declared.sink.Shadow.{Shadow}
@@ -27,7 +27,7 @@ returns-then-shadow-cells_of_block-eq0-clause-sound g c =
 pub block_at-requires : goal.block_at-requires
 block_at-requires g c =
     let geometry = c.args.geometry.now in
-    let high : geometry.block_exp ≤ c.args.level + 2 = omega (arith, c.front_levels.ensures.value, c.front_levels.ensures.some, c.if-level-front_levels.false) in
+    let high : geometry.block_exp ≤ c.args.level + 2 = omega (arith, c.front_levels.ensures, c.if-level-front_levels.false) in
     record {
       level_in = omega (arith, c.requires.level);
       slot_in = c.requires.stands.slot_in;
@@ -45,8 +45,7 @@ returns-in-Ok-clause-sound g c =
     let geometry = c.args.geometry.now in
     let told = g.D.Device.bytes c.args.buffers.now.cache.device in
     let now = g.D.Device.bytes c.turn_to.new.self.cache.device in
-    let some = c.front_levels.ensures.some in
-    let device : IsOnDevice geometry c.args.level = record { within = c.requires.level; whole = omega (arith, c.front_levels.ensures.value, some, c.if-level-front_levels.false) } in
+    let device : IsOnDevice geometry c.args.level = record { within = c.requires.level; whole = omega (arith, c.front_levels.ensures, c.if-level-front_levels.false) } in
     let copy = c.copy.result.now in
     let size : c.turn_to.new.self.cache.size ≡ block_bytes geometry = c.turn_to.ensures.stays.size ∙ c.requires.size in
     let there : last_in c.turn_to.new.self.lasts 0 ≡ Some c.block_at.result =

@@ -1,4 +1,4 @@
-use Rattle.std.proofs.Common.{◌≡◌, ◌<◌, ◌≤◌, ◌+◌, List, length, get_or, ap, sym, subst, arith}
+use Rattle.std.proofs.Common.{◌≡◌, ◌<◌, ◌≤◌, List, length, get_or, ap, sym, subst, arith}
 use Rattle.cola_cell.specs.Places.{slot_size}
 use Rattle.cola_layout.specs.declared.marks.Marks.{Marks}
 use Rattle.cola_layout.specs.Marks.{marks_of, no_marks}

@@ -8,29 +8,20 @@ use Rattle.cola_run.proofs.saving.save_tails.Goals as goal
 
 pub returns-in-Err-clause-sound : goal.returns-in-Err-clause-sound
 returns-in-Err-clause-sound g c =
-    let end = c.levels-level-end.ensures.value in
-    let begin = c.loop-level.auto.level in
-    let front = c.front_levels-level.ensures.value in
-    let some = c.front_levels-level.ensures.some in
-    let device : IsOnDevice c.args.geometry.now c.loop-level.level = record { within = omega (arith, c.loop-level-test.true, end); whole = omega (arith, begin, front, some) } in
+    let device : IsOnDevice c.args.geometry.now c.loop-level.level =
+    record { within = omega (arith, c.loop-level-test.true, c.levels-level-end.ensures); whole = omega (arith, c.loop-level.auto.level, c.front_levels-level.ensures) } in
     sound-then c.loop-level.invariant.sound device c.finish_on_device.ensures.finished
 
 pub returns-in-Err-clause-stays : goal.returns-in-Err-clause-stays
 returns-in-Err-clause-stays g c =
-    let end = c.levels-level-end.ensures.value in
-    let begin = c.loop-level.auto.level in
-    let front = c.front_levels-level.ensures.value in
-    let some = c.front_levels-level.ensures.some in
-    let device : IsOnDevice c.args.geometry.now c.loop-level.level = record { within = omega (arith, c.loop-level-test.true, end); whole = omega (arith, begin, front, some) } in
+    let device : IsOnDevice c.args.geometry.now c.loop-level.level =
+    record { within = omega (arith, c.loop-level-test.true, c.levels-level-end.ensures); whole = omega (arith, c.loop-level.auto.level, c.front_levels-level.ensures) } in
     read-then c.loop-level.invariant.sound c.loop-level.invariant.stays device c.finish_on_device.ensures.finished
 
 pub loop-level-preserved : goal.loop-level-preserved
 loop-level-preserved g c =
-    let end = c.levels-level-end.ensures.value in
-    let begin = c.loop-level.auto.level in
-    let front = c.front_levels-level.ensures.value in
-    let some = c.front_levels-level.ensures.some in
-    let device : IsOnDevice c.args.geometry.now c.loop-level.level = record { within = omega (arith, c.loop-level-test.true, end); whole = omega (arith, begin, front, some) } in
+    let device : IsOnDevice c.args.geometry.now c.loop-level.level =
+    record { within = omega (arith, c.loop-level-test.true, c.levels-level-end.ensures); whole = omega (arith, c.loop-level.auto.level, c.front_levels-level.ensures) } in
     let one = c.in-Ok.ensures.finished.shadow in
     record {
       saved = λ l on below. elim (cases_eq l c.loop-level.level) [

@@ -1,5 +1,5 @@
 -- Behind a turn the window is that of the block that the buffer of searches holds, and the turn is that of a read of the first cell.
-use Rattle.std.proofs.Common.{◌≤◌, ◌+◌, Bool, false, List, ℕ, Option, Result, Err, refl, sym, subst, arith}
+use Rattle.std.proofs.Common.{Bool, false, List, ℕ, Option, Result, Err, refl, sym, subst, arith}
 use Rattle.cola_cell.specs.declared.fault.ReadFault.{ReadFault}
 use Rattle.cola_cell.specs.declared.fault.ReadFault.TheVariants.{Device}
 use Rattle.cola_run.specs.Weaving.{IsBelow, ScansThere, as_read}

@@ -1,7 +1,6 @@
 -- The cells of a run in one block are those of the device.
 use Rattle.std.proofs.Common.{◌≡◌, ℕ, ◌*◌, ◌-◌, ◌%◌, Some, ap, subst, ◌∙◌, min}
 use Rattle.cola_cache.specs.Blocks.{last_in}
-use Rattle.cola_cell.specs.Format.{width}
 use Rattle.cola_device.specs.Bytes.{part, Gives}
 use Rattle.cola_run.specs.Cells.{block_cells, block_bytes, block_number}
 use Rattle.cola_run.specs.Weaving.{ahead}

@@ -1,6 +1,5 @@
 -- The cells of a run of the front lie in it.
-use Rattle.std.proofs.Common.{◌≡◌, ◌+◌, ◌-◌, ◌^◌, ◌<◌, ℕ, ap, sym, ◌∙◌, refl, arith}
-use Rattle.cola_cell.specs.Places.{number_of}
+use Rattle.std.proofs.Common.{◌≡◌, ◌+◌, ◌-◌, ◌^◌, ℕ, ap, sym, ◌∙◌, refl, arith}
 use Rattle.cola_front.specs.Front.{cell_at}
 use Rattle.cola_layout.proofs.Places.{front-below}
 use Rattle.cola_layout.proofs.Powers.{next_power}

@@ -1,6 +1,6 @@
-use Rattle.std.proofs.Common.{◌≡◌, ◌+◌, ◌-◌, List, sym, ap, subst, ◌∙◌}
+use Rattle.std.proofs.Common.{◌+◌, ◌-◌, List, ap, subst, ◌∙◌}
 use Rattle.cola_cell.specs.declared.sink.Shadow.{Shadow}
-use Rattle.cola_run.specs.Store.{Store, cells_of, held_of, lower_of}
+use Rattle.cola_run.specs.Store.{Store, held_of, lower_of}
 use Rattle.cola_run.specs.Saving.{SameReads}
 use Rattle.cola_run.specs.Loading.{SameCells}
 use Rattle.std.proofs.lemmas.List.{with_items_is}

@@ -3,7 +3,7 @@ use Rattle.std.specs.Prelude.{IfSome, OnOk}
 use Rattle.cola_cell.specs.declared.sink.Shadow.{Shadow}
 use Rattle.cola_cell.specs.Flat.{shadow_at}
 use Rattle.cola_layout.specs.declared.geometry.Geometry.{Geometry}
-use Rattle.cola_run.specs.Cells.{Lower, IsShape, AreCells}
+use Rattle.cola_run.specs.Cells.{Lower, AreCells}
 use Rattle.cola_run.specs.Store.{Store, cells_of, lower_of, held_of}
 use Rattle.cola_run.specs.Saving.{AreFileSpots, header_shadow}
 use Rattle.std.proofs.lemmas.List.{with_items_is}

@@ -1,4 +1,4 @@
-use Rattle.std.proofs.Common.{◌≡◌, ◌+◌, ◌/◌, ◌%◌, ◌^◌, ◌<◌, false, List, ap, sym, subst, ◌∙◌, ℕ, arith}
+use Rattle.std.proofs.Common.{◌≡◌, ◌+◌, ◌/◌, ◌%◌, ◌^◌, false, List, ap, sym, subst, ◌∙◌, ℕ, arith}
 use Rattle.std.proofs.lemmas.Bool.{false≢true}
 use Rattle.cola_cell.specs.declared.sink.Shadow.{Shadow}
 use Rattle.cola_cell.specs.Flat.{shadow_at}
@@ -17,20 +17,18 @@ use Rattle.cola_run.proofs.run_store.RunStore.read_by.Goals as goal
 
 pub returns-then-level-front_levels-clause-reads : goal.returns-then-level-front_levels-clause-reads
 returns-then-level-front_levels-clause-reads g c =
-    let i = c.self.inside in
-    let view = store_of i in
-    let now : Store _ = record view { ticked = (i.ticked + 1) % 2 ^ 64 } in
+    let view = store_of c.self.inside in
+    let now : Store _ = record view { ticked = (view.ticked + 1) % 2 ^ 64 } in
     subst (λ (s : Store _). Reads (state_of g.D.Device.bytes g.D.Device.counts s) (state_of g.D.Device.bytes g.D.Device.counts now) (buffer_for c.args.reader c.args.level) c.args.level c.args.slot c.args.index (given c.read_in_front.new.into c.read_in_front.result)) c.self.view_is
-    (reads-memory (state_of g.D.Device.bytes g.D.Device.counts view) ((i.ticked + 1) % 2 ^ 64) (buffer_for c.args.reader c.args.level) c.args.level c.args.slot c.args.index (given c.read_in_front.new.into c.read_in_front.result)
+    (reads-memory (state_of g.D.Device.bytes g.D.Device.counts view) ((view.ticked + 1) % 2 ^ 64) (buffer_for c.args.reader c.args.level) c.args.level c.args.slot c.args.index (given c.read_in_front.new.into c.read_in_front.result)
     (omega arith) (c.read_in_front.ensures.answer (spent_of g.D.Device.counts view).faults))
 
 pub returns-then-has_in_tail-clause-reads : goal.returns-then-has_in_tail-clause-reads
 returns-then-has_in_tail-clause-reads g c =
-    let i = c.self.inside in
-    let view = store_of i in
-    let now : Store _ = record view { ticked = (i.ticked + 1) % 2 ^ 64 } in
+    let view = store_of c.self.inside in
+    let now : Store _ = record view { ticked = (view.ticked + 1) % 2 ^ 64 } in
     subst (λ (s : Store _). Reads (state_of g.D.Device.bytes g.D.Device.counts s) (state_of g.D.Device.bytes g.D.Device.counts now) (buffer_for c.args.reader c.args.level) c.args.level c.args.slot c.args.index (given c.read_in_tail.new.into c.read_in_tail.result)) c.self.view_is
-    (reads-memory (state_of g.D.Device.bytes g.D.Device.counts view) ((i.ticked + 1) % 2 ^ 64) (buffer_for c.args.reader c.args.level) c.args.level c.args.slot c.args.index (given c.read_in_tail.new.into c.read_in_tail.result)
+    (reads-memory (state_of g.D.Device.bytes g.D.Device.counts view) ((view.ticked + 1) % 2 ^ 64) (buffer_for c.args.reader c.args.level) c.args.level c.args.slot c.args.index (given c.read_in_tail.new.into c.read_in_tail.result)
     (omega arith) (c.read_in_tail.ensures.answer (spent_of g.D.Device.counts view).faults))
 
 pub returns-clause-reads : goal.returns-clause-reads
@@ -39,9 +37,7 @@ returns-clause-reads g c =
     let view = store_of i in
     let now : Store _ = record view { buffers = c.read_by_buffer.new.buffers; ticked = (i.ticked + 1) % 2 ^ 64 } in
     let place : IsPlace (i.geometry.bottom + 1) c.args.level c.args.slot c.args.index = subst (λ (s : Store _). IsPlace (s.geometry.bottom + 1) c.args.level c.args.slot c.args.index) (sym c.self.view_is) c.requires in
-    let front = c.front_levels.ensures.value in
-    let some = c.front_levels.ensures.some in
-    let device : IsOnDevice i.geometry c.args.level = record { within = omega (arith, place.level_in); whole = omega (arith, front, some, c.if-level-front_levels.false) } in
+    let device : IsOnDevice i.geometry c.args.level = record { within = omega (arith, place.level_in); whole = omega (arith, c.front_levels.ensures, c.if-level-front_levels.false) } in
     let shadow : c.shadow_of-shadow.result ≡ shadow_at i.shadows.items.items c.args.level = c.shadow_of-shadow.ensures ∙ ap (λ (xs : List Shadow). shadow_at xs c.args.level) c.deref.ensures.value in
     let outside : is_in_tail (block_cells i.geometry) (shadow_at i.shadows.items.items c.args.level) c.args.slot c.args.index ≡ false =
     ap (λ (x : Shadow). is_in_tail (block_cells i.geometry) x c.args.slot c.args.index) (sym shadow) ∙ sym c.has_in_tail.ensures ∙ c.if-has_in_tail.false in

@@ -4,7 +4,7 @@ use Rattle.cola_cell.specs.Packed.{given}
 use Rattle.cola_cell.specs.declared.format.Format.{Format}
 use Rattle.cola_cell.specs.declared.cell.Cell.{Cell}
 use Rattle.cola_cell.specs.Format.{CellFits}
-use Rattle.cola_cell.specs.Places.{number_of, IsPlace}
+use Rattle.cola_cell.specs.Places.{IsPlace}
 use Rattle.cola_cell.specs.Spent.{ReadAnswers}
 use Rattle.cola_front.specs.Front.{cell_at}
 use Rattle.cola_layout.proofs.Places.{front-below}

@@ -1,18 +1,19 @@
 -- What a weave leaves of a store, into a level on the device.
 use Rattle.std.proofs.Common.{◌≡◌, ◌<◌, ◌+◌, ◌%◌, ◌^◌, ℕ, List, inl, refl, ap, sym, subst, ◌∙◌, arith}
 use Rattle.std.proofs.lemmas.List.{with_items_is}
+use Rattle.std.proofs.lemmas.Option.{IfSome_then}
 use Rattle.std.specs.Vec.{with_items}
 use Rattle.cola_cell.specs.declared.sink.Shadow.{Shadow}
 use Rattle.cola_run.proofs.Weaves.{weaves}
 use Rattle.cola_run.proofs.Sounding.{woven_shape, woven_backed, woven_cell, woven_stays}
 use Rattle.cola_run.proofs.Sinks.{sound-by, around-by}
 use Rattle.cola_run.proofs.Reading.{span-is}
-use Rattle.cola_run.proofs.Spots.{both-same, if-so}
+use Rattle.cola_run.proofs.Spots.{both-same}
 use Rattle.std.proofs.Math.Nat.{mod-lt}
 use Rattle.std.proofs.lemmas.Nat.{pow_pos}
 use Rattle.cola_cell.specs.Flat.{shadow_at}
 use Rattle.cola_cell.specs.Windows.{Grown}
-use Rattle.cola_run.specs.Cells.{IsOnDevice, IsBacked}
+use Rattle.cola_run.specs.Cells.{IsOnDevice}
 use Rattle.cola_run.specs.Store.{Store, IsStore, held_of, state_of}
 use Rattle.cola_run.specs.Weaving.{WoveBelow}
 use Rattle.cola_run.proofs.Views.{store_of, lent-back}
@@ -50,9 +51,8 @@ invariant_of-self g c =
     let w = below g c in
     sound-by g.D.Device.bytes old now c.self.invariant refl refl
     (woven_shape i.geometry i.front old.shadows now.shadows old.tails now.tails c.args.level c.in-Some.passed.cells w.room (on-device g c) c.self.invariant.cells.shape w.shadow w.few w.room_is w.tails_are)
-    (if-so (g.D.Device.bytes i.buffers.cache.device) (IsBacked i.geometry old.shadows old.tails) (IsBacked i.geometry now.shadows now.tails)
-    (woven_backed i.geometry i.front old.shadows now.shadows old.tails now.tails c.args.level c.in-Some.passed.cells w.room (on-device g c) c.self.invariant.cells.shape w.shadow w.few w.room_is w.tails_are)
-    c.self.invariant.cells.backed)
+    (IfSome_then (g.D.Device.bytes i.buffers.cache.device) c.self.invariant.cells.backed
+    (woven_backed i.geometry i.front old.shadows now.shadows old.tails now.tails c.args.level c.in-Some.passed.cells w.room (on-device g c) c.self.invariant.cells.shape w.shadow w.few w.room_is w.tails_are))
     refl refl refl
 
 -- where nothing ran it is as before

@@ -1,5 +1,5 @@
 -- What a weave leaves of a store, into a level of the front.
-use Rattle.std.proofs.Common.{◌≡◌, ◌+◌, ◌%◌, ◌^◌, ◌≤◌, ◌<◌, ℕ, List, inl, refl, ap, sym, subst, ◌∙◌, arith}
+use Rattle.std.proofs.Common.{◌≡◌, ◌+◌, ◌%◌, ◌^◌, ◌≤◌, ◌<◌, List, inl, refl, ap, sym, subst, ◌∙◌, arith}
 use Rattle.std.proofs.lemmas.List.{with_items_is}
 use Rattle.std.specs.Vec.{with_items}
 use Rattle.cola_cell.specs.declared.sink.Shadow.{Shadow}
@@ -38,8 +38,7 @@ within : (g : _) (c : goal.After-tick_all g) → c.args.level ≤ c.self.inside.
 within g c = subst (λ (s : Store _). c.args.level ≤ s.geometry.bottom) (sym c.self.view_is) c.requires.low
 
 few : (g : _) (c : goal.After-tick_all g) → (shadow_at (store_of c.self.inside).shadows c.args.level).len + c.in-Some.passed.cells ≤ slot_size c.args.level
-few g c =
-    omega (arith, (c.self.invariant.cells.shape.shadows_fit c.args.level (within g c)).within, (over g c).few)
+few g c = omega (arith, (c.self.invariant.cells.shape.shadows_fit c.args.level (within g c)).within, (over g c).few)
 
 pub invariant_of-self : goal.invariant_of-self
 invariant_of-self g c =

@@ -1,10 +1,10 @@
-use Rattle.std.proofs.Common.{◌≡◌, ◌<◌, ◌+◌, ◌≤◌, true, false, ap, sym, subst, ◌∙◌, arith, ℕ, List, not, Ok, refl}
+use Rattle.std.proofs.Common.{◌≡◌, ◌<◌, ◌+◌, ◌≤◌, true, false, ap, sym, subst, ◌∙◌, arith, List, not, Ok, refl}
 use Rattle.std.proofs.lemmas.List.{with_items_is}
 use Rattle.std.specs.Vec.{with_items}
 use Rattle.cola_cell.specs.declared.sink.Shadow.{Shadow}
 use Rattle.cola_cell.specs.Flat.{shadow_at}
 use Rattle.cola_cell.specs.Shadows.{Finishes, FinishSpends}
-use Rattle.cola_run.specs.Cells.{IsOnDevice, Lower, HasRoom, end_block}
+use Rattle.cola_run.specs.Cells.{IsOnDevice, HasRoom, end_block}
 use Rattle.cola_run.specs.Parts.{OneShadow, IsFinished}
 use Rattle.cola_run.specs.Turns.{Writing}
 use Rattle.cola_run.specs.Store.{Store, IsStore, lower_of, state_of, kept_of}
@@ -26,7 +26,7 @@ in-front g c =
     let i = c.self.inside in
     let view = store_of i in
     let now = front-new g c in
-    let low : c.args.level + 2 < i.geometry.block_exp = omega (arith, c.front_levels.ensures.value, c.front_levels.ensures.some, c.if-level-front_levels.true) in
+    let low : c.args.level + 2 < i.geometry.block_exp = omega (arith, c.front_levels.ensures, c.if-level-front_levels.true) in
     let within : c.args.level ≤ i.geometry.bottom = omega (arith, subst (λ (s : Store _). c.args.level < s.geometry.bottom + 1) (sym c.self.view_is) c.requires) in
     let one : OneShadow view.shadows now.shadows c.args.level c.saved.result = lent-back (λ xs ys. OneShadow xs ys c.args.level c.saved.result) c.deref_mut.ensures.value
     (with_items_is i.shadows.items c.set_shadow.new.shadows (c.set_shadow.ensures.many ∙ c.deref_mut.ensures.len)) c.set_shadow.ensures in
@@ -46,9 +46,8 @@ returns-then-level-front_levels-clause-finishes g c =
 pub finish_on_device-requires-clause-place : goal.finish_on_device-requires-clause-place
 finish_on_device-requires-clause-place g c =
     let i = c.self.inside in
-    let some = c.front_levels.ensures.some in
     let levels : c.args.level < i.geometry.bottom + 1 = subst (λ (s : Store _). c.args.level < s.geometry.bottom + 1) (sym c.self.view_is) c.requires in
-    let device : IsOnDevice i.geometry c.args.level = record { within = omega (arith, levels); whole = omega (arith, c.front_levels.ensures.value, some, c.if-level-front_levels.false) } in
+    let device : IsOnDevice i.geometry c.args.level = record { within = omega (arith, levels); whole = omega (arith, c.front_levels.ensures, c.if-level-front_levels.false) } in
     subst (λ (xs : List Shadow). (shadow_at xs c.args.level).saved ≡ false → HasRoom i.geometry xs c.args.level) (sym c.deref_mut-2.ensures.value)
     (ends-within i.geometry i.front i.shadows.items.items i.tails c.args.level c.self.invariant.cells.shape device)
 
@@ -66,9 +65,8 @@ on-device g c =
     let i = c.self.inside in
     let view = store_of i in
     let now = device-new g c in
-    let some = c.front_levels.ensures.some in
     let levels : c.args.level < i.geometry.bottom + 1 = subst (λ (s : Store _). c.args.level < s.geometry.bottom + 1) (sym c.self.view_is) c.requires in
-    let device : IsOnDevice i.geometry c.args.level = record { within = omega (arith, levels); whole = omega (arith, c.front_levels.ensures.value, some, c.if-level-front_levels.false) } in
+    let device : IsOnDevice i.geometry c.args.level = record { within = omega (arith, levels); whole = omega (arith, c.front_levels.ensures, c.if-level-front_levels.false) } in
     let finished : IsFinished i.geometry (lower_of g.D.Device.bytes i.buffers view.shadows view.tails) (lower_of g.D.Device.bytes now.buffers now.shadows view.tails) c.args.level c.finish_on_device.result = lent-back
     (λ xs ys. IsFinished i.geometry (lower_of g.D.Device.bytes i.buffers xs view.tails) (lower_of g.D.Device.bytes now.buffers ys view.tails) c.args.level c.finish_on_device.result) c.deref_mut-2.ensures.value
     (with_items_is i.shadows.items c.finish_on_device.new.shadows (c.finish_on_device.auto.shadows ∙ c.deref_mut-2.ensures.len)) c.finish_on_device.ensures.finished in

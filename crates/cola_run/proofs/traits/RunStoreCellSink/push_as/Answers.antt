@@ -44,7 +44,7 @@ in-front g c =
     let i = c.self.inside in
     let view = store_of i in
     let now = front-new g c in
-    let low : c.args.level + 2 < i.geometry.block_exp = omega (arith, c.front_levels.ensures.value, c.front_levels.ensures.some, c.if-level-front_levels.true) in
+    let low : c.args.level + 2 < i.geometry.block_exp = omega (arith, c.front_levels.ensures, c.if-level-front_levels.true) in
     let within : c.args.level ≤ i.geometry.bottom = omega (arith, subst (λ (s : Store _). c.args.level < s.geometry.bottom + 1) (sym c.self.view_is) c.requires.level_in) in
     let old = shadow_at view.shadows c.args.level in
     let of_old : c.shadow_of-len.result ≡ old = c.shadow_of-len.ensures ∙ ap (λ (xs : List Shadow). shadow_at xs c.args.level) c.deref.ensures.value in
@@ -88,9 +88,8 @@ on-device g c =
     let i = c.self.inside in
     let view = store_of i in
     let now = device-new g c in
-    let some = c.front_levels.ensures.some in
     let levels : c.args.level < i.geometry.bottom + 1 = subst (λ (s : Store _). c.args.level < s.geometry.bottom + 1) (sym c.self.view_is) c.requires.level_in in
-    let device : IsOnDevice i.geometry c.args.level = record { within = omega (arith, levels); whole = omega (arith, c.front_levels.ensures.value, some, c.if-level-front_levels.false) } in
+    let device : IsOnDevice i.geometry c.args.level = record { within = omega (arith, levels); whole = omega (arith, c.front_levels.ensures, c.if-level-front_levels.false) } in
     let old = shadow_at view.shadows c.args.level in
     let of_old : c.shadow_of-len.result ≡ old = c.shadow_of-len.ensures ∙ ap (λ (xs : List Shadow). shadow_at xs c.args.level) c.deref.ensures.value in
     let lens : c.shadow_of-len.result.len ≡ old.len = ap (λ (x : Shadow). x.len) of_old in
