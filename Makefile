@@ -27,10 +27,10 @@ program:
 check: program
 	for it in launcher create run signals mirror examples shards manual install documents; do tests/$$it.sh || exit 1; done
 
-# The manual page and the plots, made anew of docs/COMMANDS.md and bench/measured.md.
+# The manual page and the plots, made anew of docs/COMMANDS.md, bench/measured.md and bench/waits.md.
 documents:
 	awk -v version="$$(cat VERSION)" -f docs/manual.awk docs/COMMANDS.md >docs/cola.1
-	awk -v folder=bench -f bench/plots.awk bench/measured.md
+	awk -v folder=bench -f bench/plots.awk bench/measured.md bench/waits.md
 
 install: install-program
 

@@ -10,7 +10,7 @@ BEGIN { FS = " *\\| *" }
 /^\| Puts that are on the disk/ { section = "disk" }
 section == "random" && /^\| (cola|LevelDB|LMDB|SQLite|Tkrzw)/ {
     split($3, both, / \+ /); split($7, put, /, /); split($8, get, /, /)
-    puts[$2] = both[1]; whole[$2] = $4; median[$2] = put[1]; worst[$2] = put[4]; found[$2] = get[1]; memory[$2] = $9
+    puts[$2] = both[1]; gets[$2] = both[2]; worst[$2] = put[4]; memory[$2] = $9
 }
 section == "disk" && /^\| cola/ { synced[$2] = $4 }
 function thousands(number,    text) {
@@ -22,10 +22,10 @@ function rate(number) { return thousands(int(number / 100 + 0.5) * 100) }
 function degree(name, it, behind) { printf "docs/manual/OPERATIONS.md\t| %s | %.0f | %.0f%s |\n", rate(1e6 / puts[it]), worst[it], memory[it], behind }
 END {
     mapped = "cola, block 5"; many = mapped ", synced, 1,000 rows a call"
-    printf "README.md\t| a put, median | %s us, finding the old value | %s LevelDB, %s SQLite |\n", median[mapped], median["LevelDB"], median["SQLite"]
-    printf "README.md\t| a get, median | %s us | %s LevelDB, %s LMDB |\n", found[mapped], found["LevelDB"], found["LMDB"]
-    printf "README.md\t| the worst put | %s us, %s in memory | %s LMDB, %s Tkrzw |\n", worst[mapped], worst[mapped ", resident"], worst["LMDB"], worst["Tkrzw"]
-    printf "README.md\t| all puts and gets | %s times LevelDB's time | %s LMDB |\n", whole[mapped], whole["LMDB"]
+    printf "README.md\t| random puts a second | %s, each finding the old value | %s LevelDB, %s SQLite |\n", rate(1e6 / puts[mapped]), rate(1e6 / puts["LevelDB"]), rate(1e6 / puts["SQLite"])
+    printf "README.md\t| random gets a second | %s | %s LevelDB, %s LMDB |\n", rate(1e6 / gets[mapped]), rate(1e6 / gets["LevelDB"]), rate(1e6 / gets["LMDB"])
+    printf "README.md\t| the worst put | %s us in memory, %s mapped | %s Tkrzw, %s LMDB |\n", worst[mapped ", resident"], worst[mapped], worst["Tkrzw"], worst["LMDB"]
+    printf "README.md\t| memory | %.0f MiB, which the system may take back | %.0f LevelDB, %.0f SQLite |\n", memory[mapped], memory["LevelDB"], memory["SQLite"]
     degree("mapped", mapped, ", which the system may take back")
     degree("resident", mapped ", resident", "")
     degree("logged", mapped ", logged", "")

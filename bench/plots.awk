@@ -1,10 +1,11 @@
-# Draws the plots of bench/ from the numbers of bench/store.sh, so that they can be made again where nothing is measured:
+# Draws the plots of bench/ from the numbers of bench/store.sh and bench/stall.sh, so that they can be made again where nothing is
+# measured:
 #
-#     awk -v folder=bench -f bench/plots.awk bench/measured.md
+#     awk -v folder=bench -f bench/plots.awk bench/measured.md bench/waits.md
 #
 # times.svg: seconds of each store on each text. calls.svg: median, 99.9th percentile and worst of single calls. growth.svg:
 # cell accesses and microseconds against keys. amortized.svg: cell accesses of one put against keys, beside a lookahead array
-# that is amortized. stall.svg, where bench/stall.sh was measured: waits under load. Colours follow the viewer, light or dark, over a background of their own.
+# that is amortized. stall.svg: waits under load. Colours follow the viewer, light or dark, over a background of their own.
 BEGIN { FS = " *\\| *" }
 
 # A drawing -------------------------------------------------------------------------------------------------------------

@@ -35,14 +35,19 @@ add SQLITE sqlite3.h -lsqlite3 '0 1 2' SQLite
 add TKRZW tkrzw_dbm_tree.h -ltkrzw 0 Tkrzw # (a put may lie in the memory of the process)
 
 kept=('nothing is promised' 'each answered put outlives the process' 'and the machine, but for the last second')
-# run KEEPS WORDS..: the lines of each store for these words, each with its title before it.
+# run KEEPS WORDS..: the lines of each store for these words, each with its title before it. (LevelDB is set alike where nothing is
+# promised and where puts outlive the process: one run is both.)
 run() {
     local keeps=$1 it define tables title
     shift
     for it in "${stores[@]}"; do
         IFS='|' read -r define tables title <<<"$it"
         [[ " $tables " == *" $keeps "* ]] || continue
-        "$room/$define" "$room/store" "$@" "$keeps" | sed "s/^/$title|/"
+        if [ "$define $keeps" != 'LEVELDB 1' ] || ! mv "$room/LEVELDB.lines" "$room/lines" 2>/dev/null; then
+            "$room/$define" "$room/store" "$@" "$keeps" >"$room/lines"
+        fi
+        sed "s/^/$title|/" "$room/lines"
+        [ "$define $keeps" != 'LEVELDB 0' ] || mv "$room/lines" "$room/LEVELDB.lines"
         rm -rf "$room/store"*
     done
 }
@@ -57,10 +62,12 @@ if [ $program = stall ]; then
     done
 else
     records=${1:-1000000} calls=${2:-1000000}
+    run 1 "$records" "$calls" ABCFD >"$room/all"
+    run 1 "$records" "$calls" E >>"$room/all"
     for workload in A B C D E F; do
         printf '\n## YCSB %s: %s\n\n| store | call | calls | median, us | 99.9th | 99.99th | worst |\n|---|---|---:|---:|---:|---:|---:|\n' "$workload" "${kept[1]}"
-        run 1 "$records" "$calls" "$workload" >"$room/lines"
+        sed -n "s/|$workload /|/p" "$room/all" >"$room/lines"
         grep -v '|calls ' "$room/lines" | shown
-        awk -F '|' '/\|calls / { split($2, n, " "); printf "%s%s %d calls a second", (NR > 1 ? "; " : "\n"), $1, n[2] } END { print "." }' "$room/lines"
+        awk -F '|' '/\|calls / { split($2, n, " "); printf "%s%s %d", (many++ ? ", " : "\nCalls a second: "), $1, n[2] } END { print "." }' "$room/lines"
     done
 fi

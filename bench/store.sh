@@ -194,6 +194,21 @@ grow() {
     done
 }
 ticks() { awk '{ sum += $NF; if ($NF > most) most = $NF } END { print sum, NR, most }'; }
+# The first row behind deletes: of all keys the lowest nine tenths are deleted; then a session asks for the next one alone, and the
+# least time of its runs is taken.
+behind() {
+    local round gone=$((lines / 10 * 9))
+    say 'behind deletes'
+    eval "$(clean cola-5-0)"
+    session cola-5-0 -
+    awk -v many="$lines" -v gone=$gone 'BEGIN { for (at = 0; at < many; at++) printf "put key%08d %d\n", at, at; for (at = 0; at < gone; at++) printf "del key%08d\n", at }' | "${command[@]}" >"$room/out"
+    printf 'range key%08d key%08d\n' 0 $((gone + 1)) >"$room/first"
+    for ((round = 0; round < rounds; round++)); do
+        "$room/driver" run "$room/first" "$room/out" "${command[@]}" >"$room/took"
+        [ "$(grep -c '^row ' "$room/out")" -eq 1 ] || { say 'there is another row behind deletes'; exit 1; }
+        cut -d ' ' -f 1 "$room/took"
+    done | sort -g | head -n 1 >"$room/behind"
+}
 # (beside the stores, on a processor of its own, where there are four)
 growing=
 if [ "$(nproc --all)" -ge 4 ]; then
@@ -202,6 +217,7 @@ if [ "$(nproc --all)" -ge 4 ]; then
 fi
 each whole
 each single
+behind
 [ "$(awk '$2 == "sum" && $1 != "echo" { print $3 }' "$room/calls" | sort -u | wc -l)" -eq 1 ] || { say 'the replies to single calls differ'; exit 1; }
 if [ -n "$growing" ]; then wait "$growing"; else grow; fi
 
@@ -209,8 +225,8 @@ if [ -n "$growing" ]; then wait "$growing"; else grow; fi
 : >"$room/mem" >"$room/cells"
 if [ -n "${COLA:-}" ]; then skip 'bench/mem.sh and bench/cells.sh (COLA names another program)'
 else
-    if command -v rustc >/dev/null; then say bench/mem.sh; "$root/bench/mem.sh" "$lines" >"$room/mem"; else skip 'bench/mem.sh (rustc is not installed)'; fi
-    if command -v rt >/dev/null; then say bench/cells.sh; "$root/bench/cells.sh" >"$room/cells"; else skip 'bench/cells.sh (rt is not installed)'; fi
+    if command -v rustc >/dev/null; then say bench/mem.sh; "$root/bench/mem.sh" "$lines" | tee "$room/mem" >&2; else skip 'bench/mem.sh (rustc is not installed)'; fi
+    if command -v rt >/dev/null; then say bench/cells.sh; "$root/bench/cells.sh" | tee "$room/cells" >&2; else skip 'bench/cells.sh (rt is not installed)'; fi
 fi
 
 # The tables.
@@ -218,14 +234,14 @@ for it in "${stores[@]}"; do echo "$it"; done >"$room/titles"
 report() {
     echo '# Measured by bench/store.sh'
     echo
-    printf 'Stores for %s keys, texts of %s lines, a quarter as many for puts and gets by single calls. %s, %s, %s of %s processors, load %s at the end.\n' \
-        "$keys" "$lines" "$(uname -sr)" "$(sed -n 's/^model name[^:]*: //p' /proc/cpuinfo | head -n 1)" "$(nproc)" "$(nproc --all)" "$(cut -d ' ' -f 1-3 /proc/loadavg)"
+    printf 'Stores for %s keys, texts of %s lines, a quarter as many for puts and gets by single calls. %s, %s, %s of %s processors, load %s at the end, %s.\n' \
+        "$keys" "$lines" "$(uname -sr)" "$(sed -n 's/^model name[^:]*: //p' /proc/cpuinfo | head -n 1)" "$(nproc)" "$(nproc --all)" "$(cut -d ' ' -f 1-3 /proc/loadavg)" "$(date +%F)"
     if command -v dpkg-query >/dev/null; then
         dpkg-query -W -f ' ${Package} ${Version}.' libleveldb-dev librocksdb-dev liblmdb-dev libsqlite3-dev libtkrzw-dev 2>/dev/null || true
         echo
     fi
     for it in "${skipped[@]}"; do echo "Skipped: $it."; done
-    awk -F '|' -v results="$results" -v calls="$room/calls" -v growth="$room/growth" -v many="$lines" -v rounds="$rounds" '
+    awk -F '|' -v results="$results" -v calls="$room/calls" -v growth="$room/growth" -v behind="$room/behind" -v many="$lines" -v rounds="$rounds" '
         function title(text) { printf "\n## %s\n\n", text }
         function head(words,    at, count, part) {
             count = split(words, part, / *\| */)
@@ -294,6 +310,9 @@ report() {
                 split(line, part, " ")
                 printf "| %d | %d | %.1f | %d | %d | %.1f | %d | %d | %.1f | %.1f | %.1f | %.1f |\n", part[1], part[2], part[3], part[4], part[5], part[6], part[7], part[8], part[9] / 1000, part[10] / 1000, part[11] / 1000, part[12] / 1000
             }
+            title("The first row behind deletes")
+            getline first < behind
+            printf "With %d of %d keys deleted, the lowest, a session of one range of the next row took %.0f ms (block 5, no cache).\n", int(many / 10) * 9, many, first * 1000
             title("Aims")
             print "Each as a ratio, with the most that is aimed at. The first three are of cola with a cache of 4,096 blocks, each with the blocks that serve it best, beside LevelDB: seconds of all puts and gets of a text, or of the gets alone; the ranges are of the best setting of all. The worst calls are of cola with blocks of 2^5 cells, the better of its caches, beside LMDB and beside the least worst get of a store with a file.\n"
             for (at = 1; at <= stores; at++) if (order[at] !~ /^(cola|map|echo)/ && (order[at], "get", 6) in single && (!best || single[order[at], "get", 6] < single[best, "get", 6])) best = order[at]
@@ -308,8 +327,8 @@ report() {
                 if (grown > more) { more = grown; found["memory"] = name }
             }
             head("of | by | at most | ratio")
-            ratio("random text, beside LevelDB", "random", both("leveldb", 1), 1.5)
-            ratio("rising text, beside LevelDB", "rising", both("leveldb", 2), 2)
+            ratio("random text, beside LevelDB", "random", both("leveldb", 1), 1.25)
+            ratio("rising text, beside LevelDB", "rising", both("leveldb", 2), 2.4)
             ratio("gets in random order, beside LevelDB", "gets", value("leveldb", "random-gets", 3), 1)
             ratio("worst put, blocks of 2^5, beside LMDB", "put", single["lmdb", "put", 6], 0.04)
             ratio("worst get, beside that of " name_of[best], "get", single[best, "get", 6], 1.2)

@@ -66,8 +66,22 @@ struct Subject {
 struct Subject : Store {
     Keeps keeps;
 
-    // NOTHING: a thousand puts are one transaction, where there are transactions.
-    Subject(const char *path, size_t, Keeps keeps) : Store(path, keeps == NOTHING ? 1000 : 1), keeps(keeps) {}
+#if defined(LEVELDB)
+    // (a batch is seen by no get before it is written, and there is no put without the log: NOTHING is as PROCESS)
+    Subject(const char *path, size_t, Keeps keeps) : Store(path, 1), keeps(keeps) {}
+#elif defined(LMDB) || defined(SQLITE)
+    // NOTHING: a thousand changes are one transaction. MACHINE: one transaction for each second, synced: what is not synced may lie on
+    // the disk in any order, so that nothing of the file would be kept. The last second is lost where the process dies, too.
+    Subject(const char *path, size_t, Keeps keeps) : Store(path, keeps == NOTHING ? 1000 : keeps == PROCESS ? 1 : 50000), keeps(keeps) {
+#ifdef LMDB
+        if (keeps == MACHINE) check(mdb_env_set_flags(env, MDB_NOSYNC, 0));
+#else
+        if (keeps == MACHINE) run("pragma synchronous=full");
+#endif
+    }
+#else
+    Subject(const char *path, size_t, Keeps keeps) : Store(path, 1), keeps(keeps) {}
+#endif
     size_t scan(string_view low, size_t most) {
         size_t count = rows(low, nullptr, most);
         replies.clear();
@@ -101,13 +115,13 @@ struct Subject : Store {
         prepare();
         Store::remove(key);
     }
-    void sync() { check(mdb_env_sync(env, 1)); }
-#elif defined(SQLITE)
-    // One transaction that waits for the disk takes the log with it.
     void sync() {
-        run("pragma synchronous=full");
-        run("create table if not exists synced (at integer); insert into synced values (1); delete from synced");
-        run("pragma synchronous=off");
+        if (writing) commit();
+    }
+#elif defined(SQLITE)
+    void sync() {
+        if (pending) run("commit");
+        pending = 0;
     }
 #else
     void sync() { db.Synchronize(true).OrDie(); }

@@ -1,11 +1,15 @@
 // The core workloads of YCSB (Cooper, Silberstein, Tam, Ramakrishnan and Sears, Benchmarking cloud serving systems with YCSB, SoCC
-// 2010) on one store, by its calls, in a process of its own, for bench/ycsb.sh, which compiles it once for each store.
+// 2010) on one store, by its calls, in a process of its own, for bench/stall.sh, which compiles it once for each store.
 //
-//     ycsb FILE RECORDS CALLS WORKLOAD KEEPS      (WORKLOAD: A to F; KEEPS: 0, 1 or 2, as bench/subjects.hpp says)
+//     ycsb FILE RECORDS CALLS WORKLOADS KEEPS      (WORKLOADS: of A to F; KEEPS: 0, 1 or 2, as bench/subjects.hpp says)
+//
+// The records are loaded, and then the workloads run one after the other, each of so many calls. YCSB's pages run A, B, C, F and D
+// behind one load, and E behind another.
 //
 // Keys are `user` and the decimal number of a hash, as YCSB's core workload makes them; a record is one field of 64 bytes. The
 // choosers are YCSB's: zipfian with the constant 0.99, scattered by the hash, and latest, by which new records are asked most.
-// Scans have from 1 to 100 records, all lengths alike. It prints the calls a second, and then a line for each kind of call.
+// Scans have from 1 to 100 records, all lengths alike. It prints, each behind its letter, a workload's calls a second and then a line
+// for each kind of call.
 #include "subjects.hpp"
 #include <cstring>
 
@@ -48,13 +52,14 @@ static const Workload workloads[] = {
 
 struct Records {
     Subject &store;
+    Keeps keeps;
     Random random{88172645463325252u};
     uint64_t count = 0;
     char room[32], bytes[64];
     string_view key, field; // the record that is asked for, and what is to be written
     string got;
 
-    explicit Records(Subject &store) : store(store) {}
+    Records(Subject &store, Keeps keeps) : store(store), keeps(keeps) {}
     void choose(uint64_t number) {
         key = string_view(room, size_t(snprintf(room, sizeof room, "user%" PRIu64, hash(number))));
         for (size_t at = 0; at < sizeof bytes; at += 8) {
@@ -72,17 +77,9 @@ struct Records {
     }
 };
 
-int main(int count, char **words) {
-    if (count != 6) return fprintf(stderr, "ycsb FILE RECORDS CALLS WORKLOAD KEEPS\n"), 2;
-    uint64_t records = uint64_t(atoll(words[2])), calls = uint64_t(atoll(words[3]));
-    auto it = std::find_if(std::begin(workloads), std::end(workloads), [&](const Workload &one) { return one.name == words[4][0]; });
-    if (it == std::end(workloads) || records < 2) return fprintf(stderr, "ycsb: workloads are A to F, on two records at least\n"), 2;
-    const Workload &mix = *it;
-    Keeps keeps = Keeps(atoi(words[5]));
-    Subject store(words[1], records + calls, keeps);
-    Records all(store);
-    for (; all.count < records; all.count++) all.choose(all.count), all.write();
-    Zipfian zipfian(records);
+// One workload on the records that are there, and its lines.
+static void run(Records &all, const Workload &mix, uint64_t calls) {
+    Zipfian zipfian(all.count);
     Random random{88172645463325252u};
     Calls reads{"read", {}}, updates{"update", {}}, inserts{"insert", {}}, scans{"scan", {}}, changes{"read-modify-write", {}};
     uint64_t begun = now(), synced = begun;
@@ -98,9 +95,28 @@ int main(int count, char **words) {
         else if (is_new) all.write(), inserts.add(now() - start), zipfian.grow(++all.count);
         else if (mix.scans > 0) all.scan(most), scans.add(now() - start);
         else all.read(), all.write(), changes.add(now() - start);
-        if (keeps == MACHINE && now() - synced >= 1000000000u) store.sync(), synced = now();
+        if (all.keeps == MACHINE && now() - synced >= 1000000000u) all.store.sync(), synced = now();
     }
-    printf("calls %.0f\n", double(calls) / (double(now() - begun) / 1e9));
-    for (Calls *kind : {&reads, &updates, &inserts, &scans, &changes}) kind->show();
+    printf("%c calls %.0f\n", mix.name, double(calls) / (double(now() - begun) / 1e9));
+    for (Calls *kind : {&reads, &updates, &inserts, &scans, &changes}) {
+        if (kind->times.empty()) continue;
+        printf("%c ", mix.name);
+        kind->show();
+    }
+    fflush(stdout);
+}
+
+int main(int count, char **words) {
+    if (count != 6) return fprintf(stderr, "ycsb FILE RECORDS CALLS WORKLOADS KEEPS\n"), 2;
+    uint64_t records = uint64_t(atoll(words[2])), calls = uint64_t(atoll(words[3]));
+    string wanted = words[4];
+    if (records < 2 || wanted.find_first_not_of("ABCDEF") != string::npos)
+        return fprintf(stderr, "ycsb: workloads are A to F, on two records at least\n"), 2;
+    Keeps keeps = Keeps(atoi(words[5]));
+    // (of the calls of D and of E a twentieth are new records)
+    Subject store(words[1], records + calls / 10 + 1000, keeps);
+    Records all(store, keeps);
+    for (; all.count < records; all.count++) all.choose(all.count), all.write();
+    for (char name : wanted) run(all, workloads[name - 'A'], calls);
     return 0;
 }

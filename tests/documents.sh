@@ -160,17 +160,25 @@ for number in $(sed -n '/^## What it costs/,/^## /s/^| the file.*/&/p' README.md
     count "README.md has $number as bench/measured.md" $?
 done
 
-# The table of blocks and caches has the numbers that were measured.
-awk -f bench/choosing.awk bench/measured.md | while IFS= read -r row; do grep -qxF -- "$row" docs/manual/OPERATIONS.md || { echo "$row"; exit 1; }; done
-count 'docs/manual/OPERATIONS.md has the table that bench/choosing.awk makes of bench/measured.md' $?
+# A first launch takes what was measured, to ten minutes.
+told=$(sed -n 's/.*on such a machine and beside editing, it took \([0-9]*\) minutes,.* takes \([0-9]*\) GB of disk\..*/\1 \2/p' bench/GATE.md)
+read -r minutes size <<<"$told"
+grep -qF "in about $(((minutes + 5) / 10 * 10)) minutes on four processors and ${size:-?} GB of disk" README.md
+count "README.md has the minutes and the disk of a first launch as bench/GATE.md: $told" $?
+
+# The table of blocks and caches, and what is said of it, has the numbers that were measured.
+while IFS= read -r part; do
+    grep -qF -- "$part" docs/manual/OPERATIONS.md
+    count "docs/manual/OPERATIONS.md has what bench/choosing.awk makes of bench/measured.md: $part" $?
+done < <(awk -f bench/choosing.awk bench/measured.md)
 
 # The plots are drawn from what was measured, and the page on the design says what it says.
 plots=$room/plots
 mkdir "$plots" || exit 1
-awk -v folder="$plots" -f bench/plots.awk bench/measured.md
-for plot in times calls growth amortized; do
+awk -v folder="$plots" -f bench/plots.awk bench/measured.md bench/waits.md
+for plot in times calls growth amortized stall; do
     cmp "bench/$plot.svg" "$plots/$plot.svg"
-    count "bench/$plot.svg is what bench/plots.awk draws of bench/measured.md (make documents)" $?
+    count "bench/$plot.svg is what bench/plots.awk draws of what was measured (make documents)" $?
 done
 for number in $(awk -F ' *[|] *' '/^## / { growth = /^## Growth/ } growth && /^\| [0-9]/ { last = $4 " " $5 " " $6 " " $7 " " $8 " " $9 } END { print last }' bench/measured.md); do
     grep -q "[^0-9.]$number[^0-9]" docs/manual/DESIGN.md
