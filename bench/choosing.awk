@@ -35,5 +35,5 @@ END {
     small = "cola, block 5, cache 0"; large = "cola, block 9, cache 0"
     printf "without a cache %.0f and %.1f for a put at 2^5, %.0f and %.2f at 2^9\n", reads[small], writes[small], reads[large], writes[large]
     printf "took %s MiB of disk in a file of 256\n", disk[small]
-    printf "one row took %s\n", first
+    printf "one row took %s\n", first == "" ? "(not measured)" : first
 }
