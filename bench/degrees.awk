@@ -8,11 +8,13 @@ BEGIN { FS = " *\\| *" }
 /^\| .* keys in random order/ { section = "random" }
 /^\| .* keys in rising order/ || /^$/ { section = "" }
 /^\| Puts that are on the disk/ { section = "disk" }
+/^\| Checkpoints of/ { section = "checkpoints" }
 section == "random" && /^\| (cola|LevelDB|LMDB|SQLite|Tkrzw)/ {
     split($3, both, / \+ /); split($7, put, /, /); split($8, get, /, /)
     puts[$2] = both[1]; gets[$2] = both[2]; worst[$2] = put[4]; memory[$2] = $9
 }
 section == "disk" && /^\| cola/ { synced[$2] = $4 }
+section == "checkpoints" && $2 == 1000 { copied = $5 }
 function thousands(number,    text) {
     text = sprintf("%d", number)
     return length(text) > 3 ? substr(text, 1, length(text) - 3) "," substr(text, length(text) - 2) : text
@@ -30,4 +32,5 @@ END {
     degree("resident", mapped ", resident", "")
     degree("logged", mapped ", logged", "")
     printf "docs/manual/OPERATIONS.md\t| %s; by 100, %s | %s, by 1,000 | %.0f |\n", rate(synced["cola, each"]), rate(synced["cola, by 100"]), thousands(worst[many]), memory[many]
+    printf "docs/manual/OPERATIONS.md\tbehind 1,000 puts %s of a copy\n", copied
 }

@@ -107,7 +107,7 @@ section ~ /^## Single calls/ {
     caller[callers] = $2
     for (at = 3; at <= 8; at++) call[callers, at - 2] = $at
 }
-section ~ /^## Waits under load/ && $3 == "all" {
+section ~ /^## Waits under load/ && $3 == "all-quietest" {
     waits++
     kept[waits] = substr(section, 21)
     waiting[waits] = $2
@@ -203,9 +203,9 @@ function amortized(    at) {
     curve(4, "this store: the mean", 1, "")
     end()
 }
-# A row for each store in each table: median, 99.9th and 99.99th percentile and worst of all its calls.
+# A row for each store in each table: median, 99.9th and 99.99th percentile and worst of all its calls in that quarter.
 function stalls(    at, y) {
-    begin("stall", 900, 210 + 24 * waits, "Waits under load, from the time that a call was due")
+    begin("stall", 900, 210 + 24 * waits, "Waits under load, from the time that a call was due, in the quietest quarter of a run")
     mark(270, 50, "circle", 1); write_text(280, 54, "start", "small", "median")
     mark(350, 50, "bar", 5); write_text(360, 54, "start", "small", "99.9th percentile")
     mark(490, 50, "bar", 4); write_text(500, 54, "start", "small", "99.99th")

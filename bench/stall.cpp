@@ -6,7 +6,9 @@
 // key of its host and its number; once there are KEYS of them the oldest one of that host is taken out. Each tenth line is
 // followed by a get of some line that is there, each hundredth by a range of twenty lines of a host. A call's time begins when its
 // line was due, so that a stall is charged to each call behind it. The store is filled with KEYS lines before.
-// It prints a line for each kind of call, and one for all, as Calls::show says.
+// It prints a line for each kind of call, one for all, and one for the machine, as Calls::show says. The last has the waits of lines
+// that were due while the loop that awaits the next one got no processor: what they would have waited for with no store at all. Two
+// lines more, all-quietest and machine-quietest, are of the quarter of the run in which that was least, by its 99.99th percentile.
 #include "subjects.hpp"
 
 static const size_t hosts = 200;
@@ -41,6 +43,20 @@ struct Collector {
     }
 };
 
+// What the machine keeps lines waiting by itself, seen by the loop that awaits them. A line that is due while a call runs is not counted.
+struct Machine {
+    uint64_t counted = 0; // the due time of the last line that is counted
+
+    // Waits until a line is due, and adds its wait; the lines behind it that are due before the loop goes on wait as it does.
+    void await(uint64_t due, uint64_t gap, Calls &waits) {
+        if (now() >= due) return;
+        uint64_t at;
+        while ((at = now()) < due) {}
+        for (; due <= at; due += gap)
+            if (due > counted) waits.add(at - due), counted = due;
+    }
+};
+
 int main(int count, char **words) {
     if (count != 6) return fprintf(stderr, "stall FILE KEYS RATE SECONDS KEEPS\n"), 2;
     size_t keys = size_t(atol(words[2])) / hosts * hosts;
@@ -52,14 +68,19 @@ int main(int count, char **words) {
     for (size_t at = 0; at < keys; at++) collector.put(at % hosts);
     Calls puts{"put", {}}, drops{"delete", {}}, gets{"get", {}}, ranges{"range", {}}, all{"all", {}};
     for (Calls *it : {&puts, &drops, &all}) it->times.reserve(3 * lines);
+    Machine machine;
+    enum { PARTS = 4 };
+    Calls part[PARTS], waits[PARTS];
+    for (int it = 0; it < PARTS; it++) part[it].times.reserve(lines), waits[it].times.reserve(lines / 2);
     Random random{88172645463325252u};
     uint64_t begun = now(), synced = begun;
     for (uint64_t line = 0; line < lines; line++) {
         uint64_t due = begun + line * gap;
-        while (now() < due) {}
+        size_t at = line * PARTS / lines;
+        machine.await(due, gap, waits[at]);
         auto done = [&](Calls &kind) {
             uint64_t took = now() - due;
-            kind.add(took), all.add(took);
+            kind.add(took), all.add(took), part[at].add(took);
         };
         size_t host = random.below(hosts);
         collector.put(host), done(puts);
@@ -68,6 +89,13 @@ int main(int count, char **words) {
         if (line % 100 == 0) collector.range(random.below(hosts), 20 + random.below(collector.each - 20)), done(ranges);
         if (keeps == MACHINE && now() - synced >= 1000000000u) store.sync(), synced = now();
     }
-    for (Calls *it : {&puts, &drops, &gets, &ranges, &all}) it->show();
+    Calls all_waits{"machine", {}};
+    for (Calls &it : waits) all_waits.times.insert(all_waits.times.end(), it.times.begin(), it.times.end());
+    for (Calls *it : {&puts, &drops, &gets, &ranges, &all, &all_waits}) it->show();
+    size_t quietest = 0;
+    for (size_t it = 1; it < PARTS; it++)
+        if (waits[it].rarely() < waits[quietest].rarely()) quietest = it;
+    part[quietest].name = "all-quietest", waits[quietest].name = "machine-quietest";
+    for (Calls *it : {&part[quietest], &waits[quietest]}) it->show();
     return 0;
 }

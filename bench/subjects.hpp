@@ -157,6 +157,11 @@ struct Calls {
     std::vector<uint32_t> times;
 
     void add(uint64_t time) { times.push_back(uint32_t(std::min<uint64_t>(time, ~0u))); }
+    // The 99.99th percentile, and the greatest number where there is no call.
+    uint32_t rarely() {
+        std::sort(times.begin(), times.end());
+        return times.empty() ? ~0u : times[size_t(double(times.size() - 1) * 0.9999)];
+    }
     // A line: the name, how many, the median, the 99.9th and the 99.99th percentile, and the worst, in microseconds.
     void show() {
         if (times.empty()) return;
