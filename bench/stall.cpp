@@ -43,19 +43,14 @@ struct Collector {
     }
 };
 
-// What the machine keeps lines waiting by itself, seen by the loop that awaits them. A line that is due while a call runs is not counted.
-struct Machine {
-    uint64_t counted = 0; // the due time of the last line that is counted
-
-    // Waits until a line is due, and adds its wait; the lines behind it that are due before the loop goes on wait as it does.
-    void await(uint64_t due, uint64_t gap, Calls &waits) {
-        if (now() >= due) return;
-        uint64_t at;
-        while ((at = now()) < due) {}
-        for (; due <= at; due += gap)
-            if (due > counted) waits.add(at - due), counted = due;
-    }
-};
+// Waits until a line is due, and adds what it waited for the machine alone, and what the lines behind it did that were due before the
+// loop went on. A line that was due while a call ran is not counted.
+static void await(uint64_t due, uint64_t gap, Calls &waits) {
+    if (now() >= due) return;
+    uint64_t at;
+    while ((at = now()) < due) {}
+    for (; due <= at; due += gap) waits.add(at - due);
+}
 
 int main(int count, char **words) {
     if (count != 6) return fprintf(stderr, "stall FILE KEYS RATE SECONDS KEEPS\n"), 2;
@@ -68,7 +63,6 @@ int main(int count, char **words) {
     for (size_t at = 0; at < keys; at++) collector.put(at % hosts);
     Calls puts{"put", {}}, drops{"delete", {}}, gets{"get", {}}, ranges{"range", {}}, all{"all", {}};
     for (Calls *it : {&puts, &drops, &all}) it->times.reserve(3 * lines);
-    Machine machine;
     enum { PARTS = 4 };
     Calls part[PARTS], waits[PARTS];
     for (int it = 0; it < PARTS; it++) part[it].times.reserve(lines), waits[it].times.reserve(lines / 2);
@@ -77,7 +71,7 @@ int main(int count, char **words) {
     for (uint64_t line = 0; line < lines; line++) {
         uint64_t due = begun + line * gap;
         size_t at = line * PARTS / lines;
-        machine.await(due, gap, waits[at]);
+        await(due, gap, waits[at]);
         auto done = [&](Calls &kind) {
             uint64_t took = now() - due;
             kind.add(took), all.add(took), part[at].add(took);
@@ -94,7 +88,7 @@ int main(int count, char **words) {
     for (Calls *it : {&puts, &drops, &gets, &ranges, &all, &all_waits}) it->show();
     size_t quietest = 0;
     for (size_t it = 1; it < PARTS; it++)
-        if (waits[it].rarely() < waits[quietest].rarely()) quietest = it;
+        if (waits[it].percentile(0.9999) < waits[quietest].percentile(0.9999)) quietest = it;
     part[quietest].name = "all-quietest", waits[quietest].name = "machine-quietest";
     for (Calls *it : {&part[quietest], &waits[quietest]}) it->show();
     return 0;

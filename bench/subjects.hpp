@@ -157,17 +157,16 @@ struct Calls {
     std::vector<uint32_t> times;
 
     void add(uint64_t time) { times.push_back(uint32_t(std::min<uint64_t>(time, ~0u))); }
-    // The 99.99th percentile, and the greatest number where there is no call.
-    uint32_t rarely() {
-        std::sort(times.begin(), times.end());
-        return times.empty() ? ~0u : times[size_t(double(times.size() - 1) * 0.9999)];
+    // The time that so large a part of the calls takes at most, in microseconds; infinite where there is no call.
+    double percentile(double part) {
+        if (times.empty()) return INFINITY;
+        if (!std::is_sorted(times.begin(), times.end())) std::sort(times.begin(), times.end());
+        return double(times[size_t(double(times.size() - 1) * part)]) / 1e3;
     }
     // A line: the name, how many, the median, the 99.9th and the 99.99th percentile, and the worst, in microseconds.
     void show() {
         if (times.empty()) return;
-        std::sort(times.begin(), times.end());
-        auto at = [&](double part) { return double(times[size_t(double(times.size() - 1) * part)]) / 1e3; };
-        printf("%s %zu %.2f %.2f %.2f %.2f\n", name, times.size(), at(0.5), at(0.999), at(0.9999), at(1));
+        printf("%s %zu %.2f %.2f %.2f %.2f\n", name, times.size(), percentile(0.5), percentile(0.999), percentile(0.9999), percentile(1));
     }
 };
 #endif
